@@ -1,0 +1,20 @@
+// The three cost figures of a record and the filler cost, after `Filler::cost` of closed.rs.
+
+ghost use mathlib.Core.Path.{_≡_};
+ghost use Rattle.phrase.specs.Filler.{fillerCost};
+
+// The figures travel together, by value (document 01, "How a path is scored").
+pub struct Costs {
+    pub per_frame: f64,
+    pub insertion_llr: f64,
+    pub unvoiced: f32,
+}
+
+impl Costs {
+    // The cost of leaving `speech` speech frames and `inserted` nuclei to no unit.
+    pub fn cost(self, speech: u32, inserted: u32) -> f64
+        ensures { λ r. ⌜ r ≡ fillerCost self speech inserted ⌝ }
+    {
+        self.per_frame * (speech as f64) - self.insertion_llr * (inserted as f64)
+    }
+}
