@@ -1,0 +1,64 @@
+-- What the two work areas keep in place of paths, and the units that their marks lead back to.
+use Prim.Native.Nat.{ℕ, suc, _+_, _<_}
+use mathlib.Core.Path.{_≡_}
+use mathlib.Core.List.{List, [], _∷_, _++_}
+use lib.Ieee.{Float, binary64, add, sub, lt, ofBits}
+use Rattle.paths.specs.Problem.{Problem}
+use Rattle.paths.specs.Path.{Path, begin, gap, unit, end}
+use Rattle.paths.specs.Cell.{Cell, empty, held, best, carry}
+use Rattle.paths.specs.CellRule.{Keeping}
+
+-- A path's value and how it was reached: 1 a start, 2 a gap, 3 + i a unit from boundary i.
+pub record Marked : Type 0 where
+  pub value : Float
+  pub mark : ℕ
+
+-- The two numbers of a cell in the work areas: both are 0 where nothing reached it.
+unfoldable pub valueAt : Cell Marked → Float
+valueAt empty = ofBits binary64 0
+valueAt (held a) = a .value
+
+unfoldable pub markAt : Cell Marked → ℕ
+markAt empty = 0
+markAt (held a) = a .mark
+
+-- The rows as the code fills them are `rows q (marks q)`.
+unfoldable pub marks : Problem → Keeping Marked
+marks q = record {
+  less = λ a b. lt (a .value) (b .value);
+  fresh = λ j. record { value = q .start j; mark = 1 };
+  overGap = λ i a. record { value = sub binary64 (a .value) (q .gapCost i); mark = 2 };
+  overUnit = λ s i j a. record { value = add binary64 (a .value) (q .unitValue s i j); mark = 3 + i };
+}
+
+-- A sum and the boundary where its path ends.
+pub record End : Type 0 where
+  pub sum : Float
+  pub at : ℕ
+
+-- The end chosen over a row of values and marks.
+unfoldable pub chosenEnd : Problem → (ℕ → Cell Marked) → Cell End
+unfolding best carry
+chosenEnd q row =
+    best (λ a b. lt (a .sum) (b .sum)) (q .size)
+    (λ j. carry (λ a. record { sum = sub binary64 (a .value) (q .stopCost j); at = j }) (row j))
+
+-- The boundaries where a unit begins and ends.
+pub record Bounds : Type 0 where
+  pub first : ℕ
+  pub last : ℕ
+
+-- The units of a path, in path order.
+unfoldable pub unitsOf : Path → List Bounds
+unfolding end
+unitsOf (begin j) = []
+unitsOf (gap p) = unitsOf p
+unitsOf (unit p j) = unitsOf p ++ (record { first = end p; last = j } ∷ [])
+
+-- What the marks lead back to from the cell of s units and boundary j: the units of a path, in path order. `mark s j` is that cell's.
+pub data Traces (mark : ℕ → ℕ → ℕ) : ℕ → ℕ → List Bounds → Type 0 where
+  started : {j : ℕ} → mark 0 j ≡ 1 → Traces mark 0 j []
+  crossed : {s j : ℕ} {units : List Bounds} → mark s (suc j) ≡ 2 → Traces mark s j units → Traces mark s (suc j) units
+  united :
+      {s i j : ℕ} {units : List Bounds} →
+      i < j → mark (suc s) j ≡ 3 + i → Traces mark s i units → Traces mark (suc s) j (units ++ (record { first = i; last = j } ∷ []))
