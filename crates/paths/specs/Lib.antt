@@ -1,3 +1,12 @@
--- The definitions of this layer: paths, which of them a problem admits, and their sums.
+-- The definitions of this layer: paths, which of them a problem admits, and their sums; the problems of a phrase's stages, its
+-- passes in their order, and what is asked of an answer.
 pub mod Problem
 pub mod Path
+pub mod Frames
+pub mod Anchors
+pub mod Units
+pub mod StageProblem
+pub mod LookAhead
+pub mod Passes
+pub mod Demand
+pub mod Search

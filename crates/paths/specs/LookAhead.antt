@@ -1,0 +1,33 @@
+-- What the look ahead from a boundary needs of the anchors: the first two that are kept at or after it. A unit from there
+-- holds none, one or more anchors as its last frame is at most the first's, at most the second's, or above.
+use Prim.Native.Nat.{ℕ}
+use mathlib.Core.Bool.{cond}
+use mathlib.Core.List.{List, [], _∷_, tail}
+use lib.Dec.{leb}
+use Rattle.paths.specs.Anchors.{Anchor}
+
+-- the anchors at or after a frame
+unfoldable pub ahead : List Anchor → ℕ → List Anchor
+ahead [] from = []
+ahead (anchor ∷ anchors) from = let rest = ahead anchors from in cond (leb from (anchor .frame)) (anchor ∷ rest) rest
+
+-- the frame and the row of the first of a list of anchors; where it is empty, a frame that no boundary passes, and any row
+abbrev pub frameOr : ℕ → List Anchor → ℕ
+frameOr beyond [] = beyond
+frameOr beyond (anchor ∷ more) = anchor .frame
+
+abbrev pub rowOr : ℕ → List Anchor → ℕ
+rowOr row [] = row
+rowOr row (anchor ∷ more) = anchor .row
+
+unfoldable pub firstAhead : ℕ → List Anchor → ℕ → ℕ
+unfolding ahead
+firstAhead beyond anchors from = frameOr beyond (ahead anchors from)
+
+unfoldable pub secondAhead : ℕ → List Anchor → ℕ → ℕ
+unfolding ahead
+secondAhead beyond anchors from = frameOr beyond (tail (ahead anchors from))
+
+unfoldable pub rowAhead : ℕ → List Anchor → ℕ → ℕ
+unfolding ahead
+rowAhead row anchors from = rowOr row (ahead anchors from)
