@@ -1,15 +1,15 @@
--- What the look ahead from a boundary needs of the anchors: the first two that are kept at or after it. A unit from there
--- holds none, one or more anchors as its last frame is at most the first's, at most the second's, or above.
+-- What the look ahead from a boundary needs of the anchors: the frames of the first two that are kept at or after it, and the
+-- first one's row.
 use Prim.Native.Nat.{ℕ}
 use mathlib.Core.Bool.{cond}
 use mathlib.Core.List.{List, [], _∷_, tail}
 use lib.Dec.{leb}
-use Rattle.paths.specs.Anchors.{Anchor}
+use Rattle.paths.specs.Anchors.{Anchor, select}
 
 -- the anchors at or after a frame
 unfoldable pub ahead : List Anchor → ℕ → List Anchor
-ahead [] from = []
-ahead (anchor ∷ anchors) from = let rest = ahead anchors from in cond (leb from (anchor .frame)) (anchor ∷ rest) rest
+unfolding select
+ahead anchors from = select (λ anchor. leb from (anchor .frame)) anchors
 
 -- the frame and the row of the first of a list of anchors; where it is empty, a frame that no boundary passes, and any row
 abbrev pub frameOr : ℕ → List Anchor → ℕ
@@ -31,3 +31,7 @@ secondAhead beyond anchors from = frameOr beyond (tail (ahead anchors from))
 unfoldable pub rowAhead : ℕ → List Anchor → ℕ → ℕ
 unfolding ahead
 rowAhead row anchors from = rowOr row (ahead anchors from)
+
+-- How many anchors a unit up to a frame takes in, by the first two ahead of its start; 2 stands for two or more.
+abbrev pub takenIn : ℕ → ℕ → ℕ → ℕ
+takenIn first second to = cond (leb to first) 0 (cond (leb to second) 1 2)
