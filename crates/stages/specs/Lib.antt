@@ -1,0 +1,2 @@
+-- The definitions of this layer: what the tables of a stage hold.
+pub mod Tables

@@ -1,0 +1,3 @@
+// The tables of a stage that the search reads, made once for a record and stage, after `Stage` and `Filler` of closed.rs.
+
+pub mod tables;
