@@ -1,0 +1,1 @@
+// Range tests on the bits of a float.
