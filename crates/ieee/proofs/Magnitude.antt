@@ -83,7 +83,7 @@ mul-within {f} p n h l = product-within p (whole-within f n l) h
 -- ---- ranges
 
 -- what lies between two finite values is finite
-between-finite : (lo hi x : Float) → T (finite lo) → T (finite hi) → T (le lo x) → T (le x hi) → T (finite x)
+pub between-finite : (lo hi x : Float) → T (finite lo) → T (finite hi) → T (le lo x) → T (le x hi) → T (finite x)
 unfolding le
 between-finite (fin s m e) (fin t n d) nan p q h k = h
 between-finite (fin s m e) (fin t n d) (inf true) p q h k = h

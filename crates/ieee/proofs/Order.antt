@@ -6,7 +6,7 @@ use mathlib.Core.Logic.{_↔_, _⊎_, inl, inr}
 use Prim.Native.Nat.{ℕ, _+_, _*_, _≤_, _<_}
 use native.Mathlib.Nat.{le-of-lt, le-of-eq, eq-or-lt-of-le, le-of-suc-le-suc, lt-of-not-le, mul-comm, mul-pos, mul-lt-mul-of-pos-right, lt-of-mul-lt-mul-right, eq-of-mul-eq-mul-right}
 use native.Mathlib.Omega.{arith}
-use mathlib.Core.Bool.{Bool, true, false, not, cond, _||_}
+use mathlib.Core.Bool.{Bool, true, false, not, cond}
 use lib.IntN.{ℤ}
 use lib.Dec.{T, eqb, ltb→lt, lt→ltb, eqb→eq, T-not}
 use lib.Ieee.{Float, fin, Format, up, down, below, level, lt, eq, le}
@@ -14,6 +14,7 @@ use lib.Ieee.Fits.{and-i, and-l, and-r, eq→eqb}
 use lib.Ieee.Scale.{finite}
 use lib.Ieee.Positive.{den-pos}
 use Rattle.ieee.specs.Value.{one, mag, over, under, Real}
+use Rattle.ieee.proofs.Tests.{either, or-l, or-r}
 use Rattle.ieee.proofs.Value.{one-pos, exact}
 
 -- ---- the order of ±a and ±b
@@ -98,18 +99,6 @@ module _ (f : Format) (s : Bool) (m : ℕ) (e : ℤ) (t : Bool) (n : ℕ) (d : �
   eq-fin = chain (eq-signs s t a b) (eq-scale _ _ _ _ k (one f) k-pos (one-pos f) left right)
 
 -- ---- the order of real values
-
-either : (a b : Bool) → T (a || b) → T a ⊎ T b
-either true b t = inl tt
-either false b t = inr t
-
-or-l : (a b : Bool) → T a → T (a || b)
-or-l true b t = tt
-or-l false b t = absurd t
-
-or-r : (a b : Bool) → T b → T (a || b)
-or-r true b t = tt
-or-r false b t = t
 
 lt-at : (f : Format) (x y : Float) → T (finite x) → T (finite y) → Real f x → Real f y → T (lt x y) ↔ (over f x + under f y < over f y + under f x)
 lt-at f (fin s m e) (fin t n d) p q x y = lt-fin f s m e t n d x y

@@ -1,6 +1,9 @@
 -- Ranges as IEEE 754 compares: false of a NaN, the two zeros equal, the ends included.
-use mathlib.Core.Bool.{Bool, _&&_}
-use lib.Ieee.{Float, neg, le}
+use mathlib.Core.Path.{_≡_}
+use Prim.Native.Nat.{ℕ}
+use mathlib.Core.Bool.{Bool, false, _&&_}
+use lib.Dec.{T}
+use lib.Ieee.{Float, Format, neg, le, ofBits, nanBits}
 
 -- lo ≤ x ≤ hi
 abbrev pub between : Float → Float → Float → Bool
@@ -9,3 +12,8 @@ between lo hi x = le lo x && le x hi
 -- -limit ≤ x ≤ limit
 abbrev pub within : Float → Float → Bool
 within limit x = between (neg limit) limit x
+
+-- What a range test on the bits of a float answers. Bits that pass are no NaN's, so they may be read as a float.
+pub record RangeTest (f : Format) (range : Float → Bool) (bits : ℕ) (r : Bool) : Type 0 where
+  pub answer : r ≡ range (ofBits f bits)
+  pub notNan : T r → nanBits f bits ≡ false
