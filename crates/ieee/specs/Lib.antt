@@ -1,0 +1,3 @@
+-- What the conversions between f64 and f32 give, and the total order of floats.
+pub mod Convert
+pub mod TotalOrder
