@@ -4,7 +4,8 @@ use mathlib.Core.Path.{_≡_}
 use mathlib.Core.Bool.{Bool, true, false, not, cond}
 use lib.Dec.{T}
 use lib.IntN.{pos}
-use lib.Ieee.{Float, nan, inf, fin, binary32, up, down, round, lt, le, isNan, fits, neg}
+use lib.Ieee.{Float, nan, inf, fin, binary32, up, down, round, lt, isNan, fits}
+use lib.Ieee.Scale.{finite}
 
 -- The f32 nearest to a value, a tie to the one with an even last digit. An infinity, a NaN and the sign stay.
 unfoldable pub narrowed : Float → Float
@@ -32,10 +33,9 @@ clamped v = cond (isNan v) lowest (cond (lt v lowest) lowest (cond (lt highest v
 unfoldable pub clampedLog : Float → Float
 clampedLog v = narrowed (clamped v)
 
--- What `clamp_log` owes: r is that value, f32 holds it, and it is a number from -1,000,000 to 1,000,000.
+-- What `clamp_log` owes: r is that value, f32 holds it, and it is a number and no infinity.
 pub record ClampedLog (v r : Float) : Type 0 where
   pub value : r ≡ clampedLog v
   pub held : T (fits binary32 r)
   pub number : T (not (isNan r))
-  pub above : T (le lowest r)
-  pub below : T (le r highest)
+  pub finite : T (finite r)

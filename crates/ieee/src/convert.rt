@@ -7,22 +7,30 @@ ghost use Prim.Native.Nat.{_<_, _≤_, _^_};
 ghost use lib.Dec.{T};
 ghost use lib.Ieee.{binary32, binary64, isNan, ofBits, toBits};
 ghost use lib.Ieee.Nearest.{closest};
-ghost use Rattle.ieee.specs.Convert.{narrowed, Narrowed, ClampedLog};
+ghost use Rattle.ieee.specs.Convert.{narrowed, clamped, Narrowed, ClampedLog};
 
-// The weight of an f64's sign and of its leading digit; the weight of an f32's sign.
-const SIGN: u64 = 0x8000_0000_0000_0000;
-
-const LEADING: u64 = 0x0010_0000_0000_0000;
+// The weight of the sign and of the leading digit in an f64 and in an f32, and an f32's infinity.
+const SIGN_64: u64 = 0x8000_0000_0000_0000;
 
 const SIGN_32: u64 = 0x8000_0000;
 
-// An f64 that has this exponent's field or a lower one is below half of the smallest f32; up to the next it narrows to a subnormal
-// f32, up to the third to a normal one, and above that to an infinity.
-const TO_ZERO: u64 = 873;
+const LEADING_64: u64 = 0x0010_0000_0000_0000;
 
-const TO_SUBNORMAL: u64 = 897;
+const LEADING_32: u64 = 0x0080_0000;
 
-const TO_NORMAL: u64 = 1151;
+const INFINITY_32: u64 = 0x7f80_0000;
+
+// How many digits an f64 has more than an f32.
+const DROPPED: u64 = 29;
+
+// The exponent's field of an f64 from which it narrows to a subnormal f32, to a normal one, to an infinity.
+const SUBNORMAL: u64 = 873;
+
+const NORMAL: u64 = 897;
+
+const INFINITE: u64 = 1151;
+
+const LOG_CLAMP: f64 = 1_000_000.0;
 
 // The same value as an f64, which holds every f32.
 pub fn widen(x: f32) -> f64
@@ -46,4 +54,54 @@ fn nearest_even(m: u64, by: u64) -> u64
     } else {
         quotient + 1
     }
+}
+
+// The pattern of an f64 with no sign, narrowed. A carry out of the digits goes into the exponent's field.
+fn narrow_magnitude(m: u64) -> u64
+    requires { ⌜ m ≤ 0x7ff0_0000_0000_0000 ⌝ }
+    ensures { λ r. ⌜ r ≡ toBits binary32 (narrowed (ofBits binary64 m)) ⌝ }
+{
+    let exponent = m / LEADING_64;
+    let significand = LEADING_64 + m % LEADING_64;
+    if exponent < SUBNORMAL {
+        0
+    } else if exponent < NORMAL {
+        nearest_even(significand, DROPPED + (NORMAL - exponent))
+    } else if exponent < INFINITE {
+        (exponent - NORMAL) * LEADING_32 + nearest_even(significand, DROPPED)
+    } else {
+        INFINITY_32
+    }
+}
+
+// The f32 nearest to x, a tie to the even one: Rust's `x as f32`.
+pub fn narrow(x: f64) -> f32
+    requires { ⌜ T (not (isNan x)) ⌝ }
+    ensures { λ r. ⌜ Narrowed x r ⌝ }
+{
+    let bits = f64::to_bits(x);
+    let pattern = bits / SIGN_64 * SIGN_32 + narrow_magnitude(bits % SIGN_64);
+    f32::from_bits(pattern as u32)
+}
+
+// v clamped to ±1,000,000; a NaN, which no sum here is, reads as the lower bound.
+fn clamp(v: f64) -> f64
+    ensures { λ r. ⌜ r ≡ clamped v ⌝ }
+{
+    if v != v {
+        -LOG_CLAMP
+    } else if v < -LOG_CLAMP {
+        -LOG_CLAMP
+    } else if v > LOG_CLAMP {
+        LOG_CLAMP
+    } else {
+        v
+    }
+}
+
+// v clamped, as an f32.
+pub fn clamp_log(v: f64) -> f32
+    ensures { λ r. ⌜ ClampedLog v r ⌝ }
+{
+    narrow(clamp(v))
 }
