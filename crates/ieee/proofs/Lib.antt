@@ -4,4 +4,7 @@ mod NarrowPattern
 mod NarrowShift
 mod NarrowFields
 mod NarrowCases
-mod NarrowClamp
+pub mod NarrowClamp
+mod TotalOrderMagnitude
+pub mod TotalOrder
+mod Examples

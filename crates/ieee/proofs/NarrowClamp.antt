@@ -11,7 +11,9 @@ use lib.Ieee.{Float, nan, inf, fin, Format, binary32, binary64, prec, low, up, d
 use lib.Ieee.Fits.{round-is, down-pos}
 use lib.Ieee.Order.{drop, kept, round-mono}
 use lib.Ieee.Scale.{finite, overflow}
-use Rattle.ieee.specs.Convert.{narrowed, lowest, highest, clamped}
+use Rattle.ieee.specs.Convert.{narrowed, lowest, highest, clamped, clampedLog}
+use Rattle.ieee.specs.TotalOrder.{Comparable}
+use Rattle.ieee.proofs.NarrowFields.{narrowed-fits, narrowed-number}
 
 -- ---- a NaN, and nothing else, differs from itself
 same-sign : (s : Bool) → Bool·beq s s ≡ true
@@ -54,12 +56,12 @@ module _ (v : Float) where
   between h l g = sym (ap (λ (b : Bool). cond b highest v) g) ∙ sym (ap (λ (b : Bool). cond b lowest (cond (lt highest v) highest v)) l) ∙ past-nan h
 
 -- ---- finite, and 1,000,000 in size at most
-abbrev pub Small : Float → Type 0
+abbrev Small : Float → Type 0
 Small nan = ⊥
 Small (inf s) = ⊥
 Small (fin s m e) = m * up e ≤ 1000000 * down e
 
-pub clamped-small : (v : Float) → Small (clamped v)
+clamped-small : (v : Float) → Small (clamped v)
 unfolding clamped isNan lt
 clamped-small nan = omega arith
 clamped-small (inf true) = omega arith
@@ -75,11 +77,14 @@ clamped-small (fin false m e) = go (ltb (1000000 * down e) (m * up e * 1)) (nltb
     go true h = omega arith
     go false h = omega (arith, h tt)
 
-pub small-number : (v : Float) → Small v → T (not (isNan v))
+small-number : (v : Float) → Small v → T (not (isNan v))
 unfolding isNan
 small-number nan h = h
 small-number (inf s) h = tt
 small-number (fin s m e) h = tt
+
+pub clamped-number : (v : Float) → T (not (isNan (clamped v)))
+clamped-number v = small-number (clamped v) (clamped-small v)
 
 -- ---- whether a rounded value is finite does not turn on the sign
 odd-finite : (d : ℕ) (s : Bool) (q k l : ℕ) → finite (odd d s q k l) ≡ true
@@ -119,7 +124,7 @@ round-bounded f a c h =
     subst (λ (v : Float). T (finite v)) (sym (round-is f false a c))
     (units-bounded f (kept (prec f) (a * 2 ^ low f) c) (drop (prec f) (a * 2 ^ low f) c) (subst (λ (v : Float). T (le v highest)) (round-is f false a c) h))
 
-pub narrowed-finite : (v : Float) → Small v → T (finite (narrowed v))
+narrowed-finite : (v : Float) → Small v → T (finite (narrowed v))
 unfolding narrowed
 narrowed-finite nan h = absurd h
 narrowed-finite (inf s) h = absurd h
@@ -128,3 +133,13 @@ narrowed-finite (fin s m e) h =
     (round-bounded binary32 (m * up e) (down e)
     (subst (λ (v : Float). T (le (round binary32 false (m * up e) (down e)) v)) rounded-highest
     (round-mono binary32 (m * up e) (down e) 1000000 1 (down-pos e) (omega arith) (omega arith))))
+
+-- ---- what is clamped and narrowed: an f32, a number, and no infinity
+module _ (v : Float) where
+  pub clampedLog-comparable : Comparable binary32 (clampedLog v)
+  unfolding clampedLog
+  clampedLog-comparable = record { held = narrowed-fits (clamped v); number = narrowed-number (clamped v) (clamped-number v) }
+
+  pub clampedLog-finite : T (finite (clampedLog v))
+  unfolding clampedLog
+  clampedLog-finite = narrowed-finite (clamped v) (clamped-small v)

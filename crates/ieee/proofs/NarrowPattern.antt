@@ -24,7 +24,7 @@ pow-lt-back i p h = lt-of-not-le (λ (g : p ≤ i). lt-irrefl (2 ^ i) (lt-of-lt-
 pub size-exact : (a n : ℕ) → 2 ^ a ≤ n → n < 2 ^ suc a → size n ≡ suc a
 size-exact a n lo hi = le-antisymm (size-le n (suc a) hi) (pow-lt-back a (size n) (lt-of-le-of-lt lo (size-lt n)))
 
-twice-half : (p : ℕ) → 0 < p → 2 ^ p ≡ 2 ^ (p - 1) + 2 ^ (p - 1)
+pub twice-half : (p : ℕ) → 0 < p → 2 ^ p ≡ 2 ^ (p - 1) + 2 ^ (p - 1)
 twice-half p h =
     let e : p ≡ suc (p - 1) = omega arith in
     ap (λ (x : ℕ). 2 ^ x) e ∙ two-pow-succ (p - 1)

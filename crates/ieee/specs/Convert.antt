@@ -6,6 +6,7 @@ use lib.Dec.{T}
 use lib.IntN.{pos}
 use lib.Ieee.{Float, nan, inf, fin, binary32, up, down, round, lt, isNan, fits}
 use lib.Ieee.Scale.{finite}
+use Rattle.ieee.specs.TotalOrder.{Comparable}
 
 -- The f32 nearest to a value, a tie to the one with an even last digit. An infinity, a NaN and the sign stay.
 unfoldable pub narrowed : Float → Float
@@ -16,8 +17,7 @@ narrowed (fin s m e) = round binary32 s (m * up e) (down e)
 -- What narrowing x to r owes: r is that value, f32 holds it, and it is a number.
 pub record Narrowed (x r : Float) : Type 0 where
   pub value : r ≡ narrowed x
-  pub held : T (fits binary32 r)
-  pub number : T (not (isNan r))
+  pub comparable : Comparable binary32 r
 
 -- 1,000,000 = 15,625 * 2 ^ 6
 abbrev pub highest : Float
@@ -36,6 +36,5 @@ clampedLog v = narrowed (clamped v)
 -- What `clamp_log` owes: r is that value, f32 holds it, and it is a number and no infinity.
 pub record ClampedLog (v r : Float) : Type 0 where
   pub value : r ≡ clampedLog v
-  pub held : T (fits binary32 r)
-  pub number : T (not (isNan r))
+  pub comparable : Comparable binary32 r
   pub finite : T (finite r)

@@ -48,8 +48,7 @@ float-from-bits-result c = subst (λ (b : Bool). T (not b)) (sym (nanBits-is bin
 returns : tie.Need-returns
 returns c = record {
   value = read c;
-  held = subst (λ (v : Float). T (fits binary32 v)) (sym (read c)) (narrowed-fits (c .before .args .x));
-  number = is-number c;
+  comparable = record { held = subst (λ (v : Float). T (fits binary32 v)) (sym (read c)) (narrowed-fits (c .before .args .x)); number = is-number c };
 }
 
 pub narrow-spec : {M : Type 1} → statement M
