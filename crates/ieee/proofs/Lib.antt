@@ -1,4 +1,4 @@
--- The laws of IEEE 754's order and operations, for any format.
+-- The laws of IEEE 754's order and operations, for any format; what narrowing and the total order rest on; worked examples.
 mod Tests
 pub mod Value
 pub mod Order
@@ -8,4 +8,13 @@ pub mod Monotone
 pub mod Magnitude
 pub mod Weight
 pub mod Pattern
-mod Examples
+mod NarrowNearest
+mod NarrowPattern
+mod NarrowShift
+mod NarrowFields
+mod NarrowCases
+pub mod NarrowClamp
+mod TotalOrderMagnitude
+pub mod TotalOrder
+mod RangeExamples
+mod ConvertExamples
