@@ -6,3 +6,4 @@ pub mod PathWays
 pub mod PathRoutes
 pub mod Rows
 pub mod Chosen
+pub mod Optimal

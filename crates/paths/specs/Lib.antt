@@ -17,3 +17,4 @@ pub mod Search
 pub mod System
 pub mod Table
 pub mod PathSystem
+pub mod Finite
