@@ -1,0 +1,5 @@
+-- What is proved of paths, and of the problems of a phrase.
+mod Tests
+pub mod Frames
+pub mod Anchors
+pub mod LookAhead
