@@ -3,3 +3,7 @@ mod Tests
 pub mod Frames
 pub mod Anchors
 pub mod LookAhead
+pub mod Demanded
+pub mod Finite
+pub mod PhraseFigures
+pub mod Answers

@@ -13,3 +13,4 @@ pub mod LookAhead
 pub mod Passes
 pub mod Demand
 pub mod Search
+pub mod Bounded
