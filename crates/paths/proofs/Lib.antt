@@ -1,4 +1,5 @@
--- What is proved of paths, and of layered systems in general.
+-- What is proved of paths and of the problems of a phrase, and of layered systems in general.
+mod Tests
 pub mod Cells
 pub mod Tables
 pub mod BestRoutes
@@ -7,3 +8,10 @@ pub mod PathRoutes
 pub mod Rows
 pub mod Chosen
 pub mod Optimal
+pub mod Frames
+pub mod Anchors
+pub mod LookAhead
+pub mod Demanded
+pub mod Finite
+pub mod PhraseFigures
+pub mod Answers

@@ -31,6 +31,6 @@ kept phrase stage = keptIn (phrase .mask) (stage .firstRow) (stage .anchors)
 
 -- "A unit holds the anchors from its first boundary up to but not including its last." Filler counts its nuclei the
 -- same way: a kept one lies below F, so that clamping `from` and `to` to F changes nothing.
-unfoldable pub held : List Anchor → ℕ → ℕ → List Anchor
+unfoldable pub heldIn : List Anchor → ℕ → ℕ → List Anchor
 unfolding select
-held anchors from to = select (λ anchor. leb from (anchor .frame) && ltb (anchor .frame) to) anchors
+heldIn anchors from to = select (λ anchor. leb from (anchor .frame) && ltb (anchor .frame) to) anchors

@@ -3,7 +3,7 @@
 use Prim.Native.Nat.{ℕ}
 use mathlib.Core.Path.{_≡_}
 use mathlib.Core.Bool.{not}
-use mathlib.Core.List.{List, _∷_, List·Memᴰ}
+use mathlib.Core.List.{List, [], _∷_}
 use lib.Dec.{T}
 use lib.ListN.{length}
 use lib.Ieee.{Float}
@@ -38,6 +38,11 @@ pub data FirstOf (phrase : Phrase) (columns : List ℕ) (pass : Pass) : List Pas
   after : {earlier : Pass} {later : List Pass}
       → AdmitsNone phrase columns earlier → FirstOf phrase columns pass later → FirstOf phrase columns pass (earlier ∷ later)
 
+-- something holds of each of the passes listed
+pub data Each (P : Pass → Type 0) : List Pass → Type 0 where
+  all-done : Each P []
+  each-of : {pass : Pass} {later : List Pass} → P pass → Each P later → Each P (pass ∷ later)
+
 -- "If the record has speech by its edges, a nucleus in its mask, and some pass that admits a path with the candidate's unit count,
 -- the pass named is the first that does, in the stated order. It admits the path chosen, and every other path that it admits for
 -- that count has a left-to-right f64 sum at most as large."
@@ -52,7 +57,5 @@ pub record Found (phrase : Phrase) (columns : List ℕ) (pass : Pass) (path : Pa
 -- 'unvoiced' if no nucleus is in the mask, and 'none' otherwise."
 pub data Demanded (phrase : Phrase) (columns : List ℕ) : Answer → Type 0 where
   a-path : {pass : Pass} {path : Path} {total : Float} → Found phrase columns pass path total → Demanded phrase columns (found pass path total)
-  no-path : T (hasNucleus phrase)
-      → (T (speaks (phrase .speech)) → (pass : Pass) → List·Memᴰ pass (inOrder phrase) → AdmitsNone phrase columns pass)
-      → Demanded phrase columns none
+  no-path : T (hasNucleus phrase) → (T (speaks (phrase .speech)) → Each (AdmitsNone phrase columns) (inOrder phrase)) → Demanded phrase columns none
   no-nucleus : T (not (hasNucleus phrase)) → Demanded phrase columns unvoiced

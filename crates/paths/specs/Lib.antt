@@ -18,3 +18,4 @@ pub mod System
 pub mod Table
 pub mod PathSystem
 pub mod Finite
+pub mod Bounded

@@ -8,14 +8,14 @@ use Rattle.phrase.specs.Filler.{fillerCost}
 use Rattle.paths.specs.declared.passes.Strictness.{Strictness}
 use Rattle.paths.specs.Problem.{Problem}
 use Rattle.paths.specs.Frames.{speechIn}
-use Rattle.paths.specs.Anchors.{Anchor, kept, held}
+use Rattle.paths.specs.Anchors.{Anchor, kept, heldIn}
 use Rattle.paths.specs.Units.{admitsUnit}
 
 -- The filler cost of the frames from..to. "Both stages count the record's nuclei here."
 unfoldable pub cost : Phrase → ℕ → ℕ → Float
-unfolding speechIn held
+unfolding speechIn heldIn
 cost phrase from to =
-    fillerCost (phrase .costs) (speechIn (phrase .mask) from to) (length (held (kept phrase (phrase .nuclei)) from to))
+    fillerCost (phrase .costs) (speechIn (phrase .mask) from to) (length (heldIn (kept phrase (phrase .nuclei)) from to))
 
 -- "Score: the table at the anchor's row and the unit's column, or the unvoiced score where there is no anchor."
 unfoldable pub scoreOf : Phrase → ℕ → List Anchor → Float
@@ -24,9 +24,9 @@ scoreOf phrase column (anchor ∷ more) = phrase .score (anchor .row) column
 
 -- What a unit adds: "score + duration, itself rounded once first", the duration by its stage's table at its own length.
 unfoldable pub unitValueOf : Phrase → Stage → ℕ → ℕ → ℕ → Float
-unfolding scoreOf held
+unfolding scoreOf heldIn
 unitValueOf phrase stage column from to =
-    add binary64 (scoreOf phrase column (held (kept phrase stage) from to)) (stage .duration (to - from))
+    add binary64 (scoreOf phrase column (heldIn (kept phrase stage) from to)) (stage .duration (to - from))
 
 -- the frame of boundary i
 abbrev pub boundary : Stage → ℕ → ℕ

@@ -7,7 +7,7 @@ use lib.Dec.{leb, eqb}
 use lib.ListN.{length}
 use Rattle.paths.specs.declared.passes.Strictness.{Strictness}
 use Rattle.paths.specs.declared.passes.Strictness.the-variants.{Strict, Relaxed}
-use Rattle.paths.specs.Anchors.{Anchor, held}
+use Rattle.paths.specs.Anchors.{Anchor, heldIn}
 
 -- the fewest and the most frames of a unit
 abbrev pub shortestUnit : ℕ
@@ -26,5 +26,5 @@ mayHold Relaxed anchors = leb anchors 1
 
 -- whether a unit may go from one frame to another, over the kept anchors of its stage
 unfoldable pub admitsUnit : Strictness → List Anchor → ℕ → ℕ → Bool
-unfolding held
-admitsUnit strictness anchors from to = fitsUnit (to - from) && mayHold strictness (length (held anchors from to))
+unfolding heldIn
+admitsUnit strictness anchors from to = fitsUnit (to - from) && mayHold strictness (length (heldIn anchors from to))

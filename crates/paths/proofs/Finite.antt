@@ -1,0 +1,40 @@
+-- Every value and every sum of an admitted path is finite: each figure has a whole-number bound, and they add up. Assumes nothing.
+use mathlib.Core.Path.{_≡_, sym, subst}
+use Prim.Native.Nat.{ℕ, zero, suc, _+_, _*_, _^_, _≤_, _<_}
+use native.Mathlib.Nat.{le-trans, mul-le-mul-right, add-le-add, le-refl, suc-mul}
+use native.Mathlib.Omega.{arith}
+use lib.Ieee.{Float, binary64, prec}
+use Rattle.ieee.specs.Value.{Real, Within}
+use Rattle.ieee.proofs.Magnitude.{add-within, sub-within, weaken}
+use Rattle.paths.specs.Problem.{Problem}
+use Rattle.paths.specs.Path.{Path, begin, gap, unit, end, Admitted, begins, gaps, units, value, sum}
+use Rattle.paths.specs.Bounded.{Figures}
+
+-- an admitted path stands at one of the boundaries
+pub end-below : {q : Problem} {p : Path} → Admitted q p → end p < q .size
+unfolding end
+end-below (begins h) = h
+end-below (gaps a h) = h
+end-below (units a h k ok) = k
+
+module _ {q : Problem} {edge step : ℕ} (figures : Figures q edge step) where
+  -- up to a boundary there is room, with one more step
+  room-to : (j : ℕ) → j ≤ q .size → edge + j * step ≤ 2 ^ prec binary64
+  room-to j h = omega (arith, figures .room, mul-le-mul-right step h)
+
+  pub value-within : {p : Path} → Admitted q p → Within binary64 (value q p) (edge + end p * step)
+  unfolding value end
+  value-within (begins {j = j} h) = weaken (edge + j * step) (omega arith) (figures .starts j h)
+  value-within (gaps {p = p} a h) =
+      weaken (edge + suc (end p) * step) (omega (arith, suc-mul (end p) step))
+      (sub-within (value-within a) (figures .gaps (end p) h) (omega (arith, suc-mul (end p) step, room-to (suc (end p)) (omega arith))))
+  value-within (units {p = p} {j = j} a h k ok) =
+      weaken (edge + j * step) (omega (arith, suc-mul (end p) step, mul-le-mul-right step h))
+      (add-within (value-within a) (figures .units _ (end p) j h k ok)
+      (omega (arith, suc-mul (end p) step, mul-le-mul-right step h, room-to j (omega arith))))
+
+  pub sum-within : {p : Path} → Admitted q p → Within binary64 (sum q p) (edge + end p * step + edge)
+  unfolding sum
+  sum-within {p} a =
+      sub-within (value-within a) (figures .stops (end p) (end-below a))
+      (omega (arith, figures .room, mul-le-mul-right {m = end p} {n = q .size} step (omega (arith, end-below a))))

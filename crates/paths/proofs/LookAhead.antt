@@ -1,0 +1,167 @@
+-- The look ahead "skips only what is barred": what the first two anchors at or after a boundary say of the units that start there,
+-- and that a unit barred for its length, or for a second anchor, stays barred however much further it goes. Assumes nothing.
+use mathlib.Core.Logic.{_⊎_, inl, inr}
+use mathlib.Core.Path.{_≡_, refl, sym, ap, _∙_}
+use mathlib.Core.Bool.{Bool, true, false, cond, _&&_, and-false}
+use mathlib.Core.List.{List, [], _∷_, tail}
+use Prim.Native.Nat.{ℕ, suc, _-_, _≤_, _<_, suc-le-suc}
+use native.Mathlib.Nat.{le-trans, le-refl, not-le-of-lt}
+use native.Mathlib.Omega.{arith}
+use lib.Dec.{leb, ltb, leb→le, nleb→lt}
+use lib.ListN.{length, getD}
+use borrow.Author.Tests.{le-leb, lt-leb, lt-ltb, le-ltb, ne-eqb}
+use Rattle.phrase.specs.Phrase.{Phrase, Stage}
+use Rattle.paths.specs.declared.passes.Strictness.{Strictness}
+use Rattle.paths.specs.declared.passes.Strictness.the-variants.{Strict, Relaxed}
+use Rattle.paths.specs.Frames.{Increasing, within}
+use Rattle.paths.specs.Anchors.{Anchor, select, numbered, keptIn, kept, heldIn}
+use Rattle.paths.specs.Units.{longestUnit, fitsUnit, mayHold, admitsUnit}
+use Rattle.paths.specs.StageProblem.{scoreOf, boundary, problemOf}
+use Rattle.paths.specs.LookAhead.{ahead, frameOr, rowOr, firstAhead, secondAhead, rowAhead, takenIn}
+use Rattle.paths.proofs.Tests.{by-test}
+use Rattle.paths.proofs.Frames.{increasing-le}
+use Rattle.paths.proofs.Anchors.{select-select, heldIn-more}
+
+-- ---- kept anchors stand in the order of their frames
+
+-- anchors from a frame on, in strictly increasing order
+pub data Rising : ℕ → List Anchor → Type 0 where
+  no-more : {low : ℕ} → Rising low []
+  and-then : {low : ℕ} {anchor : Anchor} {anchors : List Anchor} → low ≤ anchor .frame → Rising (suc (anchor .frame)) anchors → Rising low (anchor ∷ anchors)
+
+rising-from : {low lower : ℕ} {anchors : List Anchor} → lower ≤ low → Rising low anchors → Rising lower anchors
+rising-from h no-more = no-more
+rising-from h (and-then g r) = and-then (le-trans h g) r
+
+rising-select : (test : Anchor → Bool) {low : ℕ} {anchors : List Anchor} → Rising low anchors → Rising low (select test anchors)
+unfolding select
+rising-select test no-more = no-more
+rising-select test (and-then {low = low} {anchor = anchor} {anchors = anchors} h r) = go (test anchor) (rising-select test r)
+  where
+    go : (b : Bool) → Rising (suc (anchor .frame)) (select test anchors) → Rising low (cond b (anchor ∷ select test anchors) (select test anchors))
+    go true s = and-then h s
+    go false s = rising-from (omega arith) s
+
+rising-numbered : (low row : ℕ) (frames : List ℕ) → (0 < length frames → low ≤ getD frames 0 0) → Increasing frames → Rising low (numbered row frames)
+unfolding numbered
+rising-numbered low row [] h increasing = no-more
+rising-numbered low row (frame ∷ frames) h increasing =
+    and-then (h (omega arith))
+    (rising-numbered (suc frame) (suc row) frames (λ more. increasing 0 (suc-le-suc more)) (λ i more. increasing (suc i) (suc-le-suc more)))
+
+pub kept-rising : (mask : List ℕ) (row : ℕ) (frames : List ℕ) → Increasing frames → Rising 0 (keptIn mask row frames)
+unfolding keptIn
+kept-rising mask row frames increasing =
+    rising-select (λ anchor. within mask (anchor .frame)) (rising-numbered 0 row frames (λ more. omega arith) increasing)
+
+-- ---- the anchors before a frame, of those ahead
+
+before : List Anchor → ℕ → List Anchor
+before anchors to = select (λ anchor. ltb (anchor .frame) to) anchors
+
+held-ahead : (anchors : List Anchor) (from to : ℕ) → heldIn anchors from to ≡ before (ahead anchors from) to
+unfolding heldIn ahead before
+held-ahead anchors from to = sym (select-select (λ anchor. leb from (anchor .frame)) (λ anchor. ltb (anchor .frame) to) anchors)
+
+none-from : (to : ℕ) {low : ℕ} {anchors : List Anchor} → Rising low anchors → to ≤ low → before anchors to ≡ []
+unfolding before select
+none-from to no-more h = refl
+none-from to (and-then {low = low} {anchor = anchor} {anchors = anchors} g r) h =
+    rw (le-ltb (anchor .frame) to (le-trans h g)) (none-from to r (omega arith))
+
+none-before : (beyond to : ℕ) {low : ℕ} {anchors : List Anchor} → Rising low anchors → to ≤ frameOr beyond anchors → before anchors to ≡ []
+none-before beyond to no-more h = none-from to {low = to} no-more (le-refl to)
+none-before beyond to (and-then {anchor = anchor} g r) h = none-from to (and-then (le-refl (anchor .frame)) r) h
+
+-- the first stays, and what is before the end of the others
+first-before : (to : ℕ) (anchor : Anchor) (anchors : List Anchor) → anchor .frame < to → before (anchor ∷ anchors) to ≡ anchor ∷ before anchors to
+unfolding before select
+first-before to anchor anchors h = rw (lt-ltb (anchor .frame) to h)
+
+one-before : (beyond row to : ℕ) {low : ℕ} {anchors : List Anchor} → Rising low anchors → to ≤ beyond → frameOr beyond anchors < to
+    → to ≤ frameOr beyond (tail anchors) → before anchors to ≡ record { frame = frameOr beyond anchors; row = rowOr row anchors } ∷ []
+one-before beyond row to no-more most past h = absurd (not-le-of-lt past most)
+one-before beyond row to (and-then {anchor = anchor} {anchors = anchors} g r) most past h =
+    first-before to anchor anchors past ∙ ap (λ (rest : List Anchor). anchor ∷ rest) (none-before beyond to r h)
+
+more-before : (beyond to : ℕ) {low : ℕ} {anchors : List Anchor} → Rising low anchors → to ≤ beyond → frameOr beyond (tail anchors) < to
+    → 2 ≤ length (before anchors to)
+more-before beyond to no-more most past = absurd (not-le-of-lt past most)
+more-before beyond to (and-then g no-more) most past = absurd (not-le-of-lt past most)
+more-before beyond to (and-then {anchor = first} g (and-then {anchor = second} {anchors = anchors} k r)) most past =
+    rw (first-before to first (second ∷ anchors) (omega arith), first-before to second anchors past) (omega arith)
+
+score-before : (phrase : Phrase) (column beyond row to : ℕ) {low : ℕ} {anchors : List Anchor} → Rising low anchors → to ≤ beyond
+    → scoreOf phrase column (before anchors to)
+    ≡ cond (leb to (frameOr beyond anchors)) (phrase .costs .«unvoiced») (phrase .score (rowOr row anchors) column)
+unfolding scoreOf
+score-before phrase column beyond row to {anchors = []} r most =
+    ap (scoreOf phrase column) (none-before beyond to {anchors = []} r most) ∙ rw (le-leb to beyond most)
+score-before phrase column beyond row to {anchors = anchor ∷ anchors} r most = by-test (leb to (anchor .frame))
+    (λ t. let h = leb→le to (anchor .frame) t in
+    ap (scoreOf phrase column) (none-before beyond to {anchors = anchor ∷ anchors} r h) ∙ rw (le-leb to (anchor .frame) h))
+    (λ t. let past = nleb→lt to (anchor .frame) t in
+    ap (scoreOf phrase column) (first-before to anchor anchors past) ∙ rw (lt-leb to (anchor .frame) past))
+
+may-not : (strictness : Strictness) (n : ℕ) → 2 ≤ n → mayHold strictness n ≡ false
+may-not Strict n h = ne-eqb n 1 (omega arith)
+may-not Relaxed n h = lt-leb n 1 h
+
+-- ---- the laws of the two anchors ahead
+
+module _ {anchors : List Anchor} (rising : Rising 0 anchors) (beyond from to : ℕ) (most : to ≤ beyond) where
+  rising-ahead : Rising 0 (ahead anchors from)
+  unfolding ahead
+  rising-ahead = rising-select (λ anchor. leb from (anchor .frame)) rising
+
+  pub holds-none : to ≤ firstAhead beyond anchors from → heldIn anchors from to ≡ []
+  unfolding firstAhead
+  holds-none h = held-ahead anchors from to ∙ none-before beyond to rising-ahead h
+
+  pub holds-one : (row : ℕ) → firstAhead beyond anchors from < to → to ≤ secondAhead beyond anchors from
+      → heldIn anchors from to ≡ record { frame = firstAhead beyond anchors from; row = rowAhead row anchors from } ∷ []
+  unfolding firstAhead secondAhead rowAhead
+  holds-one row past h = held-ahead anchors from to ∙ one-before beyond row to rising-ahead most past h
+
+  pub holds-more : secondAhead beyond anchors from < to → 2 ≤ length (heldIn anchors from to)
+  unfolding secondAhead
+  holds-more past = rw (held-ahead anchors from to) (more-before beyond to rising-ahead most past)
+
+  -- the code's test of what a unit holds
+  pub mayHold-ahead : (strictness : Strictness)
+      → mayHold strictness (length (heldIn anchors from to)) ≡ mayHold strictness (takenIn (firstAhead beyond anchors from) (secondAhead beyond anchors from) to)
+  mayHold-ahead strictness =
+      let first = firstAhead beyond anchors from in
+      let second = secondAhead beyond anchors from in
+      by-test (leb to first)
+      (λ t. let h = leb→le to first t in rw (le-leb to first h) (ap (λ (l : List Anchor). mayHold strictness (length l)) (holds-none h)))
+      (λ t. let past = nleb→lt to first t in rw (lt-leb to first past) (by-test (leb to second)
+      (λ s. let h = leb→le to second s in
+      rw (le-leb to second h) (ap (λ (l : List Anchor). mayHold strictness (length l)) (holds-one 0 past h)))
+      (λ s. let beyond-two = nleb→lt to second s in
+      rw (lt-leb to second beyond-two) (may-not strictness _ (holds-more beyond-two) ∙ sym (may-not strictness 2 (le-refl 2))))))
+
+  -- the code's score of a unit
+  pub score-ahead : (row : ℕ) (phrase : Phrase) (column : ℕ)
+      → scoreOf phrase column (heldIn anchors from to)
+      ≡ cond (leb to (firstAhead beyond anchors from)) (phrase .costs .«unvoiced») (phrase .score (rowAhead row anchors from) column)
+  unfolding firstAhead rowAhead scoreOf
+  score-ahead row phrase column = ap (scoreOf phrase column) (held-ahead anchors from to) ∙ score-before phrase column beyond row to rising-ahead most
+
+-- ---- "The look ahead over later boundaries stops for good at the first that is over 80 frames away or takes in a second anchor."
+
+-- a unit that is too long, or holds two anchors, goes on being so
+pub barred-beyond : (strictness : Strictness) (anchors : List Anchor) (from : ℕ) {to further : ℕ} → to ≤ further
+    → (longestUnit < to - from) ⊎ (2 ≤ length (heldIn anchors from to)) → admitsUnit strictness anchors from further ≡ false
+unfolding admitsUnit
+barred-beyond strictness anchors from {to} {further} h (inl long) = rw (lt-leb (further - from) longestUnit (omega arith), and-false)
+barred-beyond strictness anchors from {to} {further} h (inr two) =
+    ap (λ (b : Bool). fitsUnit (further - from) && b) (may-not strictness _ (le-trans two (heldIn-more anchors from h))) ∙ and-false (fitsUnit (further - from))
+
+-- over boundaries: once the unit to boundary j is so, no later boundary is a target
+pub barred-later : (phrase : Phrase) (stage : Stage) (strictness : Strictness) (columns : List ℕ) → Increasing (stage .boundaries)
+    → (i j later : ℕ) → j ≤ later → later < length (stage .boundaries)
+    → (longestUnit < boundary stage j - boundary stage i) ⊎ (2 ≤ length (heldIn (kept phrase stage) (boundary stage i) (boundary stage j)))
+    → problemOf phrase stage strictness columns .unitOk i later ≡ false
+barred-later phrase stage strictness columns increasing i j later h k =
+    barred-beyond strictness (kept phrase stage) (boundary stage i) (increasing-le (stage .boundaries) increasing j later h k)
