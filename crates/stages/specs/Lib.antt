@@ -1,2 +1,4 @@
 -- The definitions of this layer: what the tables of a stage hold.
+pub mod Listed
+pub mod Edges
 pub mod Tables

@@ -1,3 +1,4 @@
 // The tables of a stage that the search reads, made once for a record and stage, after `Stage` and `Filler` of closed.rs.
 
+pub mod counts;
 pub mod tables;

@@ -1,0 +1,25 @@
+-- Which frame an edge is.
+use Prim.Native.Nat.{ℕ, zero, suc, _+_, _≤_, _<_}
+use mathlib.Core.Path.{_≡_, refl}
+use mathlib.Core.List.{List, [], _∷_}
+use native.Mathlib.Omega.{arith}
+use native.Mathlib.Nat.{le-refl}
+use native.Mathlib.Numerals.{add-one}
+use lib.ListN.{length, getD, List·getD-eq-default}
+use Rattle.paths.specs.Frames.{Increasing}
+use Rattle.stages.specs.Edges.{edge}
+
+pub edge-in : (bounds : List ℕ) (last j : ℕ) → j < length bounds → edge bounds last j ≡ getD bounds j 0
+edge-in [] last j h = absurd (none h)
+  where
+    none : j < 0 → ⊥
+    none h = omega arith
+edge-in (b ∷ bounds) last zero h = refl
+edge-in (b ∷ bounds) last (suc j) h = edge-in bounds last j (omega arith)
+
+pub edge-end : (bounds : List ℕ) (last : ℕ) → edge bounds last (length bounds) ≡ last
+edge-end bounds last = List·getD-eq-default bounds last (le-refl (length bounds))
+
+-- the next boundary is not before this one
+pub ascends : (bounds : List ℕ) → Increasing bounds → (j : ℕ) → j + 1 < length bounds → getD bounds j 0 ≤ getD bounds (j + 1) 0
+ascends bounds increasing j h = rw (add-one j) (omega (arith, increasing j (omega arith)))

@@ -1,0 +1,85 @@
+-- Arrays that are filled from the front: one more entry, and what stands where.
+use Prim.Native.Nat.{ℕ, zero, suc, _+_, _-_, _≤_, _<_}
+use mathlib.Core.Path.{_≡_, refl, sym, ap, ap₂, subst, _∙_}
+use mathlib.Core.List.{List, [], _∷_, _++_, append-assoc}
+use mathlib.Core.Bool.{Bool, true, false, not}
+use native.Mathlib.Omega.{arith}
+use native.Mathlib.Numerals.{add-one}
+use native.Mathlib.Nat.{sub-zero}
+use lib.Dec.{T, ltb, ltb→lt, nltb→le}
+use lib.ListN.{length, getD, set, replicate, length-append, length-replicate, getD-replicate, List·getD-append}
+use lib.Seq.{set-append-seam, getD-append-add, getD-append-seam}
+use Rattle.stages.specs.Listed.{padded, listed, tableOf}
+
+module _ {A : Type 0} where
+  pub padded-none : (size : ℕ) (spare : A) → replicate size spare ≡ padded [] size spare
+  unfolding padded
+  padded-none size spare = ap (λ (n : ℕ). replicate n spare) (sym (sub-zero size))
+
+  pub padded-more : (xs : List A) (size : ℕ) (spare x : A) → length xs < size
+      → set (padded xs size spare) (length xs) x ≡ padded (xs ++ (x ∷ [])) size spare
+  unfolding padded
+  padded-more xs size spare x h =
+      let e : size - length xs ≡ suc (size - suc (length xs)) = omega arith in
+      let e′ : size - suc (length xs) ≡ size - length (xs ++ (x ∷ [])) = omega (arith, length-append xs (x ∷ [])) in
+      ap (λ (n : ℕ). set (xs ++ replicate n spare) (length xs) x) e
+      ∙ set-append-seam xs spare (replicate (size - suc (length xs)) spare) x
+      ∙ sym (append-assoc xs (x ∷ []) (replicate (size - suc (length xs)) spare))
+      ∙ ap (λ (n : ℕ). (xs ++ (x ∷ [])) ++ replicate n spare) e′
+
+  pub padded-in : (xs : List A) (size : ℕ) (spare d : A) (i : ℕ) → i < length xs → getD (padded xs size spare) i d ≡ getD xs i d
+  unfolding padded
+  padded-in xs size spare d i h = List·getD-append xs (replicate (size - length xs) spare) d i h
+
+  pub padded-out : (xs : List A) (size : ℕ) (spare d : A) (i : ℕ) → length xs ≤ i → i < size → getD (padded xs size spare) i d ≡ spare
+  unfolding padded
+  padded-out xs size spare d i h k =
+      let e : i ≡ length xs + (i - length xs) = omega arith in
+      ap (λ (n : ℕ). getD (xs ++ replicate (size - length xs) spare) n d) e
+      ∙ getD-append-add xs (replicate (size - length xs) spare) (i - length xs) d
+      ∙ getD-replicate (size - length xs) (i - length xs) spare d (omega arith)
+
+  pub length-padded : (xs : List A) (size : ℕ) (spare : A) → length xs ≤ size → length (padded xs size spare) ≡ size
+  unfolding padded
+  length-padded xs size spare h =
+      length-append xs (replicate (size - length xs) spare)
+      ∙ ap (λ (n : ℕ). length xs + n) (length-replicate (size - length xs) spare)
+      ∙ omega arith
+
+  pub length-listed : (f : ℕ → A) (n : ℕ) → length (listed f n) ≡ n
+  unfolding listed
+  length-listed f zero = refl
+  length-listed f (suc n) = length-append (listed f n) (f n ∷ []) ∙ omega (arith, length-listed f n)
+
+  pub listed-at : (f : ℕ → A) (n : ℕ) (d : A) (i : ℕ) → i < n → getD (listed f n) i d ≡ f i
+  unfolding listed
+  listed-at f zero d i h = absurd (not-below h)
+    where
+      not-below : i < 0 → ⊥
+      not-below h = omega arith
+  listed-at f (suc n) d i h = go (ltb i n) (ltb→lt i n) (nltb→le i n) (listed-at f n d i)
+    where
+      go : (earlier : Bool) → (T earlier → i < n) → (T (not earlier) → n ≤ i) → (i < n → getD (listed f n) i d ≡ f i) → getD (listed f n ++ (f n ∷ [])) i d ≡ f i
+      go true less more known = List·getD-append (listed f n) (f n ∷ []) d i (omega (arith, less tt, length-listed f n)) ∙ known (less tt)
+      go false less more known =
+          let e : i ≡ length (listed f n) = omega (arith, more tt, length-listed f n) in
+          let e′ : n ≡ i = omega (arith, more tt) in
+          ap (λ (m : ℕ). getD (listed f n ++ (f n ∷ [])) m d) e ∙ getD-append-seam (listed f n) (f n) [] d ∙ ap f e′
+
+  pub table-none : (f : ℕ → A) (size : ℕ) (spare : A) → replicate size spare ≡ tableOf f 0 size spare
+  unfolding listed
+  table-none f size spare = padded-none size spare
+
+  pub table-more : (f : ℕ → A) (n size : ℕ) (spare x : A) → n < size → x ≡ f n → set (tableOf f n size spare) n x ≡ tableOf f (n + 1) size spare
+  unfolding listed
+  table-more f n size spare x h e =
+      ap₂ (set (tableOf f n size spare)) (sym (length-listed f n)) e
+      ∙ padded-more (listed f n) size spare (f n) (omega (arith, length-listed f n))
+      ∙ ap (λ (m : ℕ). tableOf f m size spare) (sym (add-one n))
+
+  pub table-at : (f : ℕ → A) (n size : ℕ) (spare d : A) (i : ℕ) → i < n → getD (tableOf f n size spare) i d ≡ f i
+  table-at f n size spare d i h =
+      padded-in (listed f n) size spare d i (omega (arith, length-listed f n)) ∙ listed-at f n d i h
+
+  pub length-table : (f : ℕ → A) (n size : ℕ) (spare : A) → n ≤ size → length (tableOf f n size spare) ≡ size
+  length-table f n size spare h = length-padded (listed f n) size spare (omega (arith, length-listed f n))
