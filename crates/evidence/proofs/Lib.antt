@@ -1,0 +1,3 @@
+-- Laws of this layer's definitions.
+mod Walk
+pub mod Checks

@@ -1,0 +1,4 @@
+-- The definitions of this layer, from document 01, "Spans, marks and order".
+pub mod Outcome
+pub mod Masks
+pub mod Joins
