@@ -1,4 +1,5 @@
 -- Laws of this layer's definitions.
 mod Walk
 mod Tail
+mod Nearest
 pub mod Checks
