@@ -2,4 +2,6 @@
 mod Walk
 mod Tail
 mod Nearest
+pub mod Neighbours
+pub mod Cuts
 pub mod Checks

@@ -4,3 +4,4 @@ pub mod Masks
 pub mod Frames
 pub mod Joins
 pub mod CreakyTail
+pub mod Spans
