@@ -1,0 +1,77 @@
+-- `creaky_tail`: the tests are those of `creakyTailOf` in its order, and then the tail after the last pitched frame.
+use mathlib.Core.Path.{ap}
+use borrow.Author.Needs.{needs}
+use Rattle.evidence.specs.Outcome.{accepted}
+use Rattle.evidence.specs.CreakyTail.{creakyTailOf}
+use Rattle.evidence.proofs.Checks.{taken, passed}
+use Rattle.evidence.proofs.evidence.creaky_tail.Statement.{statement}
+use Rattle.evidence.proofs.evidence.creaky_tail.Tie as tie
+
+returns : tie.Need-returns
+unfolding creakyTailOf
+returns c = taken _ (c .if1 .taken)
+
+unfit-requires : tie.Need-unfit-requires
+unfit-requires c κs = search needs
+
+unfit-requires-2 : tie.Need-unfit-requires-2
+unfit-requires-2 c κs = search needs
+
+beyond-requires : tie.Need-beyond-requires
+beyond-requires c κs = search needs
+
+returns-2 : tie.Need-returns-2
+unfolding creakyTailOf
+returns-2 c =
+    passed _ (c .before .before .before .before .if1 .left)
+    (taken _ (rw (c .before .before .before .unfit .ensures, c .before .before .unfit2 .ensures, c .before .beyond .ensures) at (c .if2 .taken)))
+
+last-pitched-requires : tie.Need-last-pitched-requires
+last-pitched-requires c κs = search needs
+
+enum-told : tie.Need-enum-told
+enum-told c = search needs
+
+enum-known-last : tie.Need-enum-known-last
+enum-known-last c = search needs
+
+cast-tail-from : tie.Need-cast-tail-from
+cast-tail-from c = search needs
+
+add-tail-from : tie.Need-add-tail-from
+add-tail-from c = search needs
+
+tail-from-requires : tie.Need-tail-from-requires
+tail-from-requires c κs = search needs
+
+returns-3 : tie.Need-returns-3
+unfolding creakyTailOf
+returns-3 c =
+    passed _ (c .before .before .before .before .before .before .before .if1 .left)
+    (passed _ (rw (c .before .before .before .before .before .before .unfit .ensures, c .before .before .before .before .before .unfit2 .ensures, c .before .before .before .before .beyond .ensures) at (c .before .before .before .if2 .left))
+    (rw (← c .before .before .last-pitched .ensures, c .enum-told .given .1)))
+
+returns-4 : tie.Need-returns-4
+unfolding creakyTailOf
+returns-4 c =
+    passed _ (c .before .before .before .before .before .before .before .before .before .if1 .left)
+    (passed _ (rw (c .before .before .before .before .before .before .before .before .unfit .ensures, c .before .before .before .before .before .before .before .unfit2 .ensures, c .before .before .before .before .before .before .beyond .ensures) at (c .before .before .before .before .before .if2 .left))
+    (rw (← c .before .before .before .before .last-pitched .ensures, c .before .before .last .given .1) (ap accepted (c .tail-from .ensures))))
+
+pub creaky-tail-spec : {M : Type 1} → statement M
+creaky-tail-spec =
+    tie.close
+    (tie.spec
+    returns
+    unfit-requires
+    unfit-requires-2
+    beyond-requires
+    returns-2
+    last-pitched-requires
+    enum-told
+    enum-known-last
+    cast-tail-from
+    add-tail-from
+    tail-from-requires
+    returns-3
+    returns-4)

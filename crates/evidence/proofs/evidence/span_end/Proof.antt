@@ -1,0 +1,59 @@
+-- `span_end`: the right neighbour lies above the frame, and each arm is its case of the definition.
+use Prim.Native.Nat.{_<_}
+use mathlib.Core.Path.{sym, _∙_}
+use native.Mathlib.Omega.{arith}
+use borrow.Author.Needs.{needs}
+use Rattle.evidence.proofs.Neighbours.{lowest}
+use Rattle.evidence.proofs.Cuts.{end-whole, end-cut, end-kept}
+use Rattle.evidence.proofs.evidence.span_end.Statement.{statement}
+use Rattle.evidence.proofs.evidence.span_end.Tie as tie
+
+uncut-end-requires : tie.Need-uncut-end-requires
+uncut-end-requires c κs = search needs
+
+add-lowest-from : tie.Need-add-lowest-from
+add-lowest-from c = search needs
+
+lowest-from-requires : tie.Need-lowest-from-requires
+lowest-from-requires c κs = search needs
+
+enum-told : tie.Need-enum-told
+enum-told c = search needs
+
+enum-known-right : tie.Need-enum-known-right
+enum-known-right c = search needs
+
+uncut-start-requires : tie.Need-uncut-start-requires
+uncut-start-requires c κs = search needs
+
+cut-requires : tie.Need-cut-requires
+cut-requires c κs =
+    let right = lowest _ _ (sym (c .before .before .before .before .before .lowest-from .ensures) ∙ c .before .before .before .right .given .1) in
+    omega arith
+
+returns : tie.Need-returns
+returns c = c .before .before .before .uncut-end .ensures ∙ sym (end-whole _ _ _ _ (sym (c .before .before .lowest-from .ensures) ∙ c .enum-told .given .1))
+
+returns-2 : tie.Need-returns-2
+returns-2 c =
+    c .cut .ensures
+    ∙ sym (end-cut _ _ _ _ _ _ _ (c .before .before .uncut-start .ensures) (c .before .before .before .before .before .before .before .uncut-end .ensures) (sym (c .before .before .before .before .before .before .lowest-from .ensures) ∙ c .before .before .before .before .right .given .1) (c .before .if1 .taken))
+
+returns-3 : tie.Need-returns-3
+returns-3 c =
+    sym (end-kept _ _ _ _ _ _ _ (c .before .uncut-start .ensures) (c .before .before .before .before .before .before .uncut-end .ensures) (sym (c .before .before .before .before .before .lowest-from .ensures) ∙ c .before .before .before .right .given .1) (c .if1 .left))
+
+pub span-end-spec : {M : Type 1} → statement M
+span-end-spec =
+    tie.close
+    (tie.spec
+    uncut-end-requires
+    add-lowest-from
+    lowest-from-requires
+    enum-told
+    enum-known-right
+    uncut-start-requires
+    cut-requires
+    returns
+    returns-2
+    returns-3)
