@@ -1,0 +1,1 @@
+// Result entries: their words, and their ranking in the output.
