@@ -27,17 +27,20 @@ use Rattle.ieee.proofs.Result.{add-result, sub-result, mul-result}
 bounded : (f : Format) (a k c : ℕ) → 0 < c → a ≤ 2 ^ prec f → k ≤ a * one f * c → rounding f k c ≤ a * one f
 bounded f a k c C h l =
     subst (λ (z : ℕ). rounding f k c ≤ z) (rounding-whole f a h)
-    (rounding-mono f k c (a * one f) 1 C (zero-lt-suc 0) (omega arith) (subst (λ (z : ℕ). z < overflow f) (sym (rounding-whole f a h)) (whole-under f a h)))
+    (rounding-mono f k c (a * one f) 1 C (zero-lt-suc 0) (omega arith)
+    (subst (λ (z : ℕ). z < overflow f) (sym (rounding-whole f a h)) (whole-under f a h)))
 
 -- a result whose exact value has a whole-number bound
-pub result-within : {f : Format} {r : Float} {p n c : ℕ} (a : ℕ) → 0 < c → a ≤ 2 ^ prec f → Result f r p n c → p ≤ a * one f * c + n → n ≤ a * one f * c + p → Within f r a
+pub result-within : {f : Format} {r : Float} {p n c : ℕ} (a : ℕ) → 0 < c → a ≤ 2 ^ prec f → Result f r p n c
+    → p ≤ a * one f * c + n → n ≤ a * one f * c + p → Within f r a
 result-within {f} {r} {p} {n} {c} a C h w l m =
     let up : rounding f (p - n) c ≤ a * one f = bounded f a (p - n) c C h (omega arith) in
     let down : rounding f (n - p) c ≤ a * one f = bounded f a (n - p) c C h (omega arith) in
     let t : T (finite r) = w .reached (lt-of-le-of-lt up (whole-under f a h)) (lt-of-le-of-lt down (whole-under f a h)) in
     record { real = record { isFinite = t; isHeld = w .held }; bound = side (one-side f r) (w .above t) (w .below t) up down }
   where
-    side : (under f r ≡ 0) ⊎ (over f r ≡ 0) → over f r ≡ rounding f (p - n) c → under f r ≡ rounding f (n - p) c → rounding f (p - n) c ≤ a * one f → rounding f (n - p) c ≤ a * one f → mag f r ≤ a * one f
+    side : (under f r ≡ 0) ⊎ (over f r ≡ 0) → over f r ≡ rounding f (p - n) c → under f r ≡ rounding f (n - p) c
+        → rounding f (p - n) c ≤ a * one f → rounding f (n - p) c ≤ a * one f → mag f r ≤ a * one f
     side (inl z) o u l m = omega (arith, sides f r)
     side (inr z) o u l m = omega (arith, sides f r)
 
@@ -77,7 +80,8 @@ whole-within f n h = record {
     v : HasValue (ofInt f (pos n)) false n 1
     v = unfold ofInt in round-whole f false n h
 
-pub mul-within : {f : Format} {x : Float} {a : ℕ} → Within f x a → (n : ℕ) → a * n ≤ 2 ^ prec f → n ≤ 2 ^ prec f → Within f (mul f x (ofInt f (pos n))) (a * n)
+pub mul-within : {f : Format} {x : Float} {a : ℕ} → Within f x a → (n : ℕ) → a * n ≤ 2 ^ prec f → n ≤ 2 ^ prec f
+    → Within f (mul f x (ofInt f (pos n))) (a * n)
 mul-within {f} p n h l = product-within p (whole-within f n l) h
 
 -- ---- ranges
@@ -90,14 +94,16 @@ between-finite (fin s m e) (fin t n d) (inf true) p q h k = h
 between-finite (fin s m e) (fin t n d) (inf false) p q h k = k
 between-finite (fin s m e) (fin t n d) (fin u k c) p q h l = tt
 
-pub range-within : {f : Format} {lo hi : Float} {a : ℕ} → Within f lo a → Within f hi a → (x : Float) → T (fits f x) → T (between lo hi x) → Within f x a
+pub range-within : {f : Format} {lo hi : Float} {a : ℕ} → Within f lo a → Within f hi a
+    → (x : Float) → T (fits f x) → T (between lo hi x) → Within f x a
 range-within {f} {lo} {hi} {a} p q x h t =
     let above : T (le lo x) = and-l (le lo x) (le x hi) t in
     let below : T (le x hi) = and-r (le lo x) (le x hi) t in
     let r : Real f x = record { isFinite = between-finite lo hi x (p .real .isFinite) (q .real .isFinite) above below; isHeld = h } in
     record { real = r; bound = side (one-side f x) (le-iff (p .real) r .0 above) (le-iff r (q .real) .0 below) }
   where
-    side : (under f x ≡ 0) ⊎ (over f x ≡ 0) → over f lo + under f x ≤ over f x + under f lo → over f x + under f hi ≤ over f hi + under f x → mag f x ≤ a * one f
+    side : (under f x ≡ 0) ⊎ (over f x ≡ 0)
+        → over f lo + under f x ≤ over f x + under f lo → over f x + under f hi ≤ over f hi + under f x → mag f x ≤ a * one f
     side (inl z) l m = omega (arith, sides f x, sides f hi, q .bound)
     side (inr z) l m = omega (arith, sides f x, sides f lo, p .bound)
 
@@ -106,10 +112,13 @@ between-within p x h t = range-within (neg-within p) p x h t
 
 -- a bound that can be worked out, as that of a literal
 pub literal-within : (f : Format) (x : Float) (a : ℕ) → T (finite x && fits f x && leb (mag f x) (a * one f)) → Within f x a
-literal-within f x a t = record {
-  real = record { isFinite = and-l (finite x) (fits f x) (and-l (finite x && fits f x) (leb (mag f x) (a * one f)) t); isHeld = and-r (finite x) (fits f x) (and-l (finite x && fits f x) (leb (mag f x) (a * one f)) t) };
-  bound = leb→le (mag f x) (a * one f) (and-r (finite x && fits f x) (leb (mag f x) (a * one f)) t);
-}
+literal-within f x a t =
+    let small = leb (mag f x) (a * one f) in
+    let h : T (finite x && fits f x) = and-l (finite x && fits f x) small t in
+    record {
+      real = record { isFinite = and-l (finite x) (fits f x) h; isHeld = and-r (finite x) (fits f x) h };
+      bound = leb→le (mag f x) (a * one f) (and-r (finite x && fits f x) small t);
+    }
 
 -- ---- what an f32 holds, an f64 holds
 
@@ -124,4 +133,5 @@ whole-iff {f} {x} r a = (
 )
 
 pub within-widens : {x : Float} {a : ℕ} → Within binary32 x a → Within binary64 x a
-within-widens {x} {a} p = record { real = real-widens (p .real); bound = whole-iff (real-widens (p .real)) a .1 (whole-iff (p .real) a .0 (p .bound)) }
+within-widens {x} {a} p =
+    record { real = real-widens (p .real); bound = whole-iff (real-widens (p .real)) a .1 (whole-iff (p .real) a .0 (p .bound)) }

@@ -14,12 +14,15 @@ use Rattle.ieee.proofs.Rounding.{rounding-mono}
 use Rattle.ieee.proofs.Result.{add-result, sub-result}
 
 -- the larger exact result has the larger rounded one
-pub result-mono : {f : Format} {r r' : Float} {p n p' n' c : ℕ} → 0 < c → Result f r p n c → Result f r' p' n' c → T (finite r) → T (finite r') → p + n' ≤ p' + n → T (le r r')
+pub result-mono : {f : Format} {r r' : Float} {p n p' n' c : ℕ} → 0 < c → Result f r p n c → Result f r' p' n' c
+    → T (finite r) → T (finite r') → p + n' ≤ p' + n → T (le r r')
 result-mono {f} {r} {r'} {p} {n} {p'} {n'} {c} C a b t t' h =
     let x : Real f r = record { isFinite = t; isHeld = a .held } in
     let y : Real f r' = record { isFinite = t'; isHeld = b .held } in
-    let up : over f r ≤ over f r' = grows (p - n) (p' - n') (over f r) (over f r') (a .above t) (b .above t') (omega arith) (omega (arith, sides f r', real-small y)) in
-    let down : under f r' ≤ under f r = grows (n' - p') (n - p) (under f r') (under f r) (b .below t') (a .below t) (omega arith) (omega (arith, sides f r, real-small x)) in
+    let up : over f r ≤ over f r' =
+    grows (p - n) (p' - n') (over f r) (over f r') (a .above t) (b .above t') (omega arith) (omega (arith, sides f r', real-small y)) in
+    let down : under f r' ≤ under f r =
+    grows (n' - p') (n - p) (under f r') (under f r) (b .below t') (a .below t) (omega arith) (omega (arith, sides f r, real-small x)) in
     le-iff x y .1 (omega arith)
   where
     grows : (k k' u u' : ℕ) → u ≡ rounding f k c → u' ≡ rounding f k' c → k ≤ k' → u' < overflow f → u ≤ u'

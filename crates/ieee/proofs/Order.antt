@@ -42,7 +42,8 @@ eq-signs true true a b = (λ h. omega (arith, eqb→eq a b (and-l (eqb a b) true
 
 -- ---- in units of the format, whatever the two fractions
 
-cross : (s t : Bool) (u v d e a b o : ℕ) → u * d ≡ a * o → v * e ≡ b * o → (cond s 0 u + cond t v 0) * (d * e) ≡ (cond s 0 (a * e) + cond t (b * d) 0) * o
+cross : (s t : Bool) (u v d e a b o : ℕ) → u * d ≡ a * o → v * e ≡ b * o
+    → (cond s 0 u + cond t v 0) * (d * e) ≡ (cond s 0 (a * e) + cond t (b * d) 0) * o
 cross false false u v d e a b o p q = omega (arith, ap (λ (z : ℕ). z * e) p)
 cross false true u v d e a b o p q = omega (arith, ap (λ (z : ℕ). z * e) p, ap (λ (z : ℕ). z * d) q)
 cross true false u v d e a b o p q = omega arith
@@ -100,10 +101,12 @@ module _ (f : Format) (s : Bool) (m : ℕ) (e : ℤ) (t : Bool) (n : ℕ) (d : �
 
 -- ---- the order of real values
 
-lt-at : (f : Format) (x y : Float) → T (finite x) → T (finite y) → Real f x → Real f y → T (lt x y) ↔ (over f x + under f y < over f y + under f x)
+lt-at : (f : Format) (x y : Float) → T (finite x) → T (finite y) → Real f x → Real f y
+    → T (lt x y) ↔ (over f x + under f y < over f y + under f x)
 lt-at f (fin s m e) (fin t n d) p q x y = lt-fin f s m e t n d x y
 
-eq-at : (f : Format) (x y : Float) → T (finite x) → T (finite y) → Real f x → Real f y → T (eq x y) ↔ (over f x + under f y ≡ over f y + under f x)
+eq-at : (f : Format) (x y : Float) → T (finite x) → T (finite y) → Real f x → Real f y
+    → T (eq x y) ↔ (over f x + under f y ≡ over f y + under f x)
 eq-at f (fin s m e) (fin t n d) p q x y = eq-fin f s m e t n d x y
 
 pub lt-iff : {f : Format} {x y : Float} → Real f x → Real f y → T (lt x y) ↔ (over f x + under f y < over f y + under f x)

@@ -41,44 +41,51 @@ fields-value f s (suc x) t l =
 fields-finite : (f : Format) (s : Bool) (x t : ℕ) → x ≤ ones f → T (finite (ofFields f s x t)) → x < ones f
 unfolding ofFields
 fields-finite f s zero t l h = omega arith
-fields-finite f s (suc x) t l h = go (eqb (suc x) (ones f)) (eqb t 0) (λ e. eq→eqb e) h
+fields-finite f s (suc x) t l h = go (eqb (suc x) (ones f)) (eqb t 0) (odd (prec f) s (hid f + t) x (low f)) (λ e. eq→eqb e) h
   where
-    go : (a b : Bool) → (suc x ≡ ones f → T a) → T (finite (cond a (cond b (inf s) nan) (odd (prec f) s (hid f + t) x (low f)))) → suc x < ones f
-    go true true e u = absurd u
-    go true false e u = absurd u
-    go false b e u = lt-of-le-ne l e
+    go : (a b : Bool) (v : Float) → (suc x ≡ ones f → T a) → T (finite (cond a (cond b (inf s) nan) v)) → suc x < ones f
+    go true true v e u = absurd u
+    go true false v e u = absurd u
+    go false b v e u = lt-of-le-ne l e
 
 module _ (f : Format) (b : ℕ) where
+  exponent-in : b % top f / hid f ≤ ones f
+  exponent-in =
+      le-of-suc-le-suc
+      (div-lt-iff-lt-mul (hid-pos f) .1
+      (subst (λ (n : ℕ). b % top f < n) (mul-comm (hid f) (suc (ones f))) (mod-lt b (mul-pos (hid-pos f) (zero-lt-suc (ones f))))))
+
   -- the digits of the whole pattern are those of the pattern without its sign
   digits : b % top f % hid f ≡ b % hid f
   digits = mod-mod-of-dvd (hid f) b (dvd-mul-right (hid f) (suc (ones f)))
 
-  pub pattern-value : b % top f < ones f * hid f → HasValue (ofBits f b) (leb (top f) b) (weight (hid f) (b % top f)) (one f)
-  unfolding ofBits weight
-  pattern-value l =
-      subst (λ (t : ℕ). HasValue (ofFields f (leb (top f) b) (b % top f / hid f) (b % hid f)) (leb (top f) b) (weigh (hid f) (b % top f / hid f) t) (one f)) (sym digits)
-      (fields-value f (leb (top f) b) (b % top f / hid f) (b % hid f) (div-lt-iff-lt-mul (hid-pos f) .1 l))
-
   pub finite-pattern : T (finite (ofBits f b)) → b % top f < ones f * hid f
   unfolding ofBits
-  finite-pattern t =
-      div-lt-iff-lt-mul (hid-pos f) .0
-      (fields-finite f (leb (top f) b) (b % top f / hid f) (b % hid f)
-      (le-of-suc-le-suc (div-lt-iff-lt-mul (hid-pos f) .1 (subst (λ (n : ℕ). b % top f < n) (mul-comm (hid f) (suc (ones f))) (mod-lt b (mul-pos (hid-pos f) (zero-lt-suc (ones f)))))))
-      t)
+  finite-pattern t = div-lt-iff-lt-mul (hid-pos f) .0 (fields-finite f (leb (top f) b) (b % top f / hid f) (b % hid f) exponent-in t)
 
   module _ (l : b % top f < ones f * hid f) where
+    pattern-value : HasValue (ofBits f b) (leb (top f) b) (weight (hid f) (b % top f)) (one f)
+    unfolding ofBits weight
+    pattern-value =
+        let s = leb (top f) b in
+        let x = b % top f / hid f in
+        subst (λ (t : ℕ). HasValue (ofFields f s x (b % hid f)) s (weigh (hid f) x t) (one f)) (sym digits)
+        (fields-value f s x (b % hid f) (div-lt-iff-lt-mul (hid-pos f) .1 l))
+
     pub pattern-real : Real f (ofBits f b)
-    pattern-real = record { isFinite = value-finite (ofBits f b) (leb (top f) b) (weight (hid f) (b % top f)) (one f) (pattern-value l); isHeld = ofBits-fits f b }
+    pattern-real = record {
+      isFinite = value-finite (ofBits f b) (leb (top f) b) (weight (hid f) (b % top f)) (one f) pattern-value;
+      isHeld = ofBits-fits f b;
+    }
 
     pub pattern-mag : mag f (ofBits f b) ≡ weight (hid f) (b % top f)
-    pattern-mag = value-mag f (ofBits f b) (leb (top f) b) (weight (hid f) (b % top f)) (pattern-value l)
+    pattern-mag = value-mag f (ofBits f b) (leb (top f) b) (weight (hid f) (b % top f)) pattern-value
 
     pub pattern-over : over f (ofBits f b) ≡ cond (leb (top f) b) 0 (mag f (ofBits f b))
-    pattern-over = value-over f (ofBits f b) (leb (top f) b) (weight (hid f) (b % top f)) (one f) (pattern-value l)
+    pattern-over = value-over f (ofBits f b) (leb (top f) b) (weight (hid f) (b % top f)) (one f) pattern-value
 
     pub pattern-under : under f (ofBits f b) ≡ cond (leb (top f) b) (mag f (ofBits f b)) 0
-    pattern-under = value-under f (ofBits f b) (leb (top f) b) (weight (hid f) (b % top f)) (one f) (pattern-value l)
+    pattern-under = value-under f (ofBits f b) (leb (top f) b) (weight (hid f) (b % top f)) (one f) pattern-value
 
 -- ---- a finite pattern k without a sign: its value as a limit
 
@@ -136,7 +143,9 @@ module _ (f : Format) (k : ℕ) (l : k < ones f * hid f) where
 -- from the negative of one limit up to another: the sign says which of them counts
 module _ (f : Format) (k h : ℕ) (p : k < ones f * hid f) (q : h < ones f * hid f) (b : ℕ) where
   pub pattern-between : cond (leb (top f) b) (leb (b % top f) k) (leb (b % top f) h) ≡ between (neg (ofBits f k)) (ofBits f h) (ofBits f b)
-  pattern-between = same-test (cond (leb (top f) b) (leb r k) (leb r h)) (le lo x && le x hi) (into (leb (top f) b) (pattern-over f b) (pattern-under f b)) out
+  pattern-between =
+      same-test (cond (leb (top f) b) (leb r k) (leb r h)) (le lo x && le x hi)
+      (into (leb (top f) b) (pattern-over f b) (pattern-under f b)) out
     where
       r : ℕ
       r = b % top f
@@ -150,28 +159,33 @@ module _ (f : Format) (k h : ℕ) (p : k < ones f * hid f) (q : h < ones f * hid
       x : Float
       x = ofBits f b
 
-      into : (s : Bool) → (r < ones f * hid f → over f x ≡ cond s 0 (mag f x)) → (r < ones f * hid f → under f x ≡ cond s (mag f x) 0) → T (cond s (leb r k) (leb r h)) → T (le lo x && le x hi)
+      into : (s : Bool) → (r < ones f * hid f → over f x ≡ cond s 0 (mag f x)) → (r < ones f * hid f → under f x ≡ cond s (mag f x) 0)
+          → T (cond s (leb r k) (leb r h)) → T (le lo x && le x hi)
       into true o u t =
           let l : r ≤ k = leb→le r k t in
           let fine : r < ones f * hid f = lt-of-le-of-lt l p in
           let v = pattern-real f b fine in
-          and-i (le lo x) (le x hi) (at-least f k p v .1 (omega (arith, pattern-le f k p b fine .0 l, u fine))) (at-most f h q v .1 (omega (arith, o fine)))
+          and-i (le lo x) (le x hi) (at-least f k p v .1 (omega (arith, pattern-le f k p b fine .0 l, u fine)))
+          (at-most f h q v .1 (omega (arith, o fine)))
       into false o u t =
           let l : r ≤ h = leb→le r h t in
           let fine : r < ones f * hid f = lt-of-le-of-lt l q in
           let v = pattern-real f b fine in
-          and-i (le lo x) (le x hi) (at-least f k p v .1 (omega (arith, u fine))) (at-most f h q v .1 (omega (arith, pattern-le f h q b fine .0 l, o fine)))
+          and-i (le lo x) (le x hi) (at-least f k p v .1 (omega (arith, u fine)))
+          (at-most f h q v .1 (omega (arith, pattern-le f h q b fine .0 l, o fine)))
 
       out : T (le lo x && le x hi) → T (cond (leb (top f) b) (leb r k) (leb r h))
       out t =
           let above : T (le lo x) = and-l (le lo x) (le x hi) t in
           let below : T (le x hi) = and-r (le lo x) (le x hi) t in
-          let fine : r < ones f * hid f = finite-pattern f b (between-finite lo hi x (neg-real (limit-real f k p) .isFinite) (limit-real f h q .isFinite) above below) in
+          let fine : r < ones f * hid f =
+          finite-pattern f b (between-finite lo hi x (neg-real (limit-real f k p) .isFinite) (limit-real f h q .isFinite) above below) in
           let v = pattern-real f b fine in
           sort (leb (top f) b) (pattern-over f b fine) (pattern-under f b fine) (at-least f k p v .0 above) (at-most f h q v .0 below) fine
         where
           sort : (s : Bool) → over f x ≡ cond s 0 (mag f x) → under f x ≡ cond s (mag f x) 0
-              → under f x ≤ over f x + mag f (ofBits f k) → over f x ≤ under f x + mag f (ofBits f h) → r < ones f * hid f → T (cond s (leb r k) (leb r h))
+              → under f x ≤ over f x + mag f (ofBits f k) → over f x ≤ under f x + mag f (ofBits f h) → r < ones f * hid f
+              → T (cond s (leb r k) (leb r h))
           sort true o u low high fine = le→leb r k (pattern-le f k p b fine .1 (omega arith))
           sort false o u low high fine = le→leb r h (pattern-le f h q b fine .1 (omega arith))
 
@@ -222,4 +236,6 @@ module _ (f : Format) (k : ℕ) (l : k < ones f * hid f) (b : ℕ) where
   within-test = range-test f (neg (ofBits f k)) (ofBits f k) b (leb (b % top f) k) (pattern-within f k l b)
 
   pub nonpositive-test : RangeTest f (between (neg (ofBits f k)) (ofBits f 0)) b (eqb (b % top f) 0 || (leb (top f) b && leb (b % top f) k))
-  nonpositive-test = range-test f (neg (ofBits f k)) (ofBits f 0) b (eqb (b % top f) 0 || (leb (top f) b && leb (b % top f) k)) (pattern-nonpositive f k l b)
+  nonpositive-test =
+      range-test f (neg (ofBits f k)) (ofBits f 0) b (eqb (b % top f) 0 || (leb (top f) b && leb (b % top f) k))
+      (pattern-nonpositive f k l b)

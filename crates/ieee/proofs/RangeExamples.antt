@@ -2,7 +2,7 @@
 use mathlib.Core.Path.{_≡_, refl}
 use Prim.Native.Nat.{ℕ, suc, _*_}
 use native.Mathlib.Nat.{not-le-of-lt}
-use mathlib.Core.Bool.{true, false}
+use mathlib.Core.Bool.{Bool, true, false}
 use lib.Dec.{lit<}
 use lib.Ieee.{Float, nan, inf, binary32, binary64, neg, le, ofBits, fits, top}
 use Rattle.ieee.specs.Value.{one, mag, over, under, Within}
@@ -23,27 +23,43 @@ beyond = ofBits binary64 (suc million)
 tiny : Float
 tiny = ofBits binary64 1
 
-ends-in : (within limit limit ≡ true) × (within limit (neg limit) ≡ true) × (within limit (ofBits binary64 0) ≡ true) × (within limit (neg tiny) ≡ true)
+ends-in : (within limit limit ≡ true) × (within limit (neg limit) ≡ true) × (within limit (neg tiny) ≡ true)
 unfolding limit million tiny ofBits neg le
-ends-in = (refl, refl, refl, refl)
+ends-in = (refl, refl, refl)
 
-beyond-out : (within limit beyond ≡ false) × (within limit (neg beyond) ≡ false) × (within limit nan ≡ false) × (within limit (inf false) ≡ false) × (within limit (inf true) ≡ false)
+beyond-out : (within limit beyond ≡ false) × (within limit (neg beyond) ≡ false)
 unfolding limit beyond million ofBits neg le
-beyond-out = (refl, refl, refl, refl, refl)
+beyond-out = (refl, refl)
 
--- up to either zero and no further
-zeros-in : (between (neg limit) (ofBits binary64 0) (ofBits binary64 0) ≡ true) × (between (neg limit) (ofBits binary64 0) (ofBits binary64 (top binary64)) ≡ true)
+never-in : (within limit nan ≡ false) × (within limit (inf false) ≡ false) × (within limit (inf true) ≡ false)
 unfolding limit million ofBits neg le
-zeros-in = (refl, refl)
+never-in = (refl, refl, refl)
 
-positive-out : (between (neg limit) (ofBits binary64 0) tiny ≡ false) × (between (neg limit) (ofBits binary64 0) (neg limit) ≡ true) × (between (neg limit) (ofBits binary64 0) (neg beyond) ≡ false)
-unfolding limit beyond million tiny ofBits neg le
-positive-out = (refl, refl, refl)
+-- from -1000000 up to either zero and no further
+nonpositive : Float → Bool
+nonpositive x = between (neg limit) (ofBits binary64 0) x
 
--- 1.5 and -1.5 in binary32; the smallest positive value is the unit
-halves : (over binary32 (ofBits binary32 0x3FC0_0000) * 2 ≡ 3 * one binary32) × (under binary32 (ofBits binary32 0x3FC0_0000) ≡ 0) × (under binary32 (ofBits binary32 0xBFC0_0000) * 2 ≡ 3 * one binary32) × (mag binary64 tiny ≡ 1)
-unfolding tiny ofBits over under mag one
-halves = (refl, refl, refl, refl)
+zeros-in : (nonpositive (ofBits binary64 0) ≡ true) × (nonpositive (ofBits binary64 (top binary64)) ≡ true) × (nonpositive (neg limit) ≡ true)
+unfolding nonpositive limit million ofBits neg le
+zeros-in = (refl, refl, refl)
+
+positive-out : (nonpositive tiny ≡ false) × (nonpositive (neg beyond) ≡ false)
+unfolding nonpositive limit beyond million tiny ofBits neg le
+positive-out = (refl, refl)
+
+-- 1.5 and -1.5 in binary32
+plus : (over binary32 (ofBits binary32 0x3FC0_0000) * 2 ≡ 3 * one binary32) × (under binary32 (ofBits binary32 0x3FC0_0000) ≡ 0)
+unfolding ofBits over under mag one
+plus = (refl, refl)
+
+minus : (over binary32 (ofBits binary32 0xBFC0_0000) ≡ 0) × (under binary32 (ofBits binary32 0xBFC0_0000) * 2 ≡ 3 * one binary32)
+unfolding ofBits over under mag one
+minus = (refl, refl)
+
+-- the smallest positive value is the unit
+unit : mag binary64 tiny ≡ 1
+unfolding tiny ofBits mag one
+unit = refl
 
 -- a bound is reached, and it is the least
 million-within : Within binary64 limit 1000000

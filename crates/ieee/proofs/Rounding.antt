@@ -46,10 +46,13 @@ module _ (f : Format) (s : Bool) (a d : ℕ) where
     round-real = record { isFinite = value-finite (round f s a d) s (rounding f (a * one f) d) (one f) round-value; isHeld = round-fits f s a d }
 
   pub round-finite : T (finite (round f s a d)) → rounding f (a * one f) d < overflow f
-  round-finite t = go (ltb (rounding f (a * one f) d) (overflow f)) (ltb→lt (rounding f (a * one f) d) (overflow f)) (subst (λ (z : Float). T (finite z)) opened t)
+  round-finite t =
+      go (ltb (rounding f (a * one f) d) (overflow f)) (ltb→lt (rounding f (a * one f) d) (overflow f))
+      (subst (λ (z : Float). T (finite z)) opened t)
     where
       go : (b : Bool) → (T b → rounding f (a * one f) d < overflow f)
-          → T (finite (cond b (odd (suc (prec f)) s (kept (prec f) (a * one f) d) (drop (prec f) (a * one f) d) (low f)) (inf s))) → rounding f (a * one f) d < overflow f
+          → T (finite (cond b (odd (suc (prec f)) s (kept (prec f) (a * one f) d) (drop (prec f) (a * one f) d) (low f)) (inf s)))
+          → rounding f (a * one f) d < overflow f
       go true h u = h tt
       go false h u = absurd u
 
@@ -102,7 +105,8 @@ module _ (f : Format) (n c n' c' : ℕ) (C : 0 < c) (C' : 0 < c') where
       let d = c * o in
       let d' = c' * o in
       let y = round f false n' d' in
-      let below : T (le (round f false n d) y) = round-mono f n d n' d' (mul-pos C (one-pos f)) (mul-pos C' (one-pos f)) (omega (arith, mul-le-mul-right o h)) in
+      let below : T (le (round f false n d) y) =
+      round-mono f n d n' d' (mul-pos C (one-pos f)) (mul-pos C' (one-pos f)) (omega (arith, mul-le-mul-right o h)) in
       let l' : rounding f (n' * o) d' < overflow f = subst (λ (z : ℕ). z < overflow f) (at-unit n' c' C') l in
       let k : rounding f (n * o) d < overflow f =
       ltb→lt (rounding f (n * o) d) (overflow f)

@@ -4,11 +4,11 @@ use mathlib.Core.Logic.{_⊎_, inl, inr}
 use Prim.Native.Nat.{ℕ, zero, suc, _+_, _-_, _*_, _/_, _%_, _^_, _≤_, _<_}
 use native.Mathlib.Nat.{mul-one, mul-comm, mul-right-comm, mul-assoc, mul-div-cancel, not-le-of-lt, lt-of-not-le, le-of-suc-le-suc, mul-pos, mul-lt-mul-of-pos-right, lt-of-mul-lt-mul-right}
 use native.Mathlib.Omega.{arith}
-use mathlib.Core.Bool.{Bool, true, false, cond, _&&_}
+use mathlib.Core.Bool.{Bool, true, false, not, cond, _&&_}
 use lib.IntN.{ℤ, pos, negsuc}
 use lib.Dec.{T, leb, ltb, eqb, leb→le, ltb→lt}
 use lib.Pow.{pow-add, pow-pos, pow-lt}
-use lib.Ieee.{Float, nan, inf, fin, Format, prec, emax, low, up, down, fits, neg}
+use lib.Ieee.{Float, nan, inf, fin, Format, prec, emax, low, up, down, fits, isNan, neg}
 use lib.Ieee.Fits.{and-l, and-r, neg-fits}
 use lib.Ieee.Exact.{HasValue}
 use lib.Ieee.Scale.{finite, overflow}
@@ -86,7 +86,8 @@ held-exact f (fin s zero e) t h = ap (λ (z : ℕ). z * down e) (mag-of f (fin s
   where
     none : zero * up e * 2 ^ low f ≡ 0 * down e
     none = omega arith
-held-exact f (fin s (suc m) (pos k)) t h = scaled (suc m * 2 ^ k) (2 ^ low f) 1 (2 ^ low f) (sym (mul-one (2 ^ low f))) (den-pos (fin s (suc m) (pos k)))
+held-exact f (fin s (suc m) (pos k)) t h =
+    scaled (suc m * 2 ^ k) (2 ^ low f) 1 (2 ^ low f) (sym (mul-one (2 ^ low f))) (den-pos (fin s (suc m) (pos k)))
 held-exact f (fin s (suc m) (negsuc k)) t h =
     scaled (suc m * 1) (2 ^ low f) (2 ^ suc k) (2 ^ (low f - suc k)) (divides (suc k) (low f) (held-down f s m (negsuc k) h)) (pow-pos (suc k))
 
@@ -109,7 +110,18 @@ overflow-is f = pow-add 2 (low f) (suc (emax f)) ∙ mul-comm (2 ^ low f) (2 ^ s
 pub real-small : {f : Format} {x : Float} → Real f x → mag f x < overflow f
 real-small {f} {x} r =
     lt-of-mul-lt-mul-right (den x)
-    (omega (arith, exact r, mul-lt-mul-of-pos-right (held-small f x (r .isFinite) (r .isHeld)) (one-pos f), ap (λ (z : ℕ). z * den x) (overflow-is f)))
+    (omega (
+      arith,
+      exact r,
+      mul-lt-mul-of-pos-right (held-small f x (r .isFinite) (r .isHeld)) (one-pos f),
+      ap (λ (z : ℕ). z * den x) (overflow-is f),
+    ))
+
+pub real-not-nan : {f : Format} {x : Float} → Real f x → T (not (isNan x))
+real-not-nan {f} {x} r = go x (r .isFinite)
+  where
+    go : (x : Float) → T (finite x) → T (not (isNan x))
+    go (fin s m e) t = unfold isNan in tt
 
 -- ---- the two sides of a value
 

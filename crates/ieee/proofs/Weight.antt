@@ -23,7 +23,8 @@ digits-lt h (suc x) t u l = mul-lt-mul-of-pos-right (omega arith) (pow-pos x)
 below-next : (h x t : ℕ) → t < h → weigh h x t < h * 2 ^ x
 unfolding weigh
 below-next h zero t l = omega arith
-below-next h (suc x) t l = omega (arith, mul-lt-mul-of-pos-right {m = h + t} {n = h + h} (omega arith) (pow-pos x), ap (λ (z : ℕ). h * z) (pow-suc 2 x))
+below-next h (suc x) t l =
+    omega (arith, mul-lt-mul-of-pos-right {m = h + t} {n = h + h} (omega arith) (pow-pos x), ap (λ (z : ℕ). h * z) (pow-suc 2 x))
 
 from-next : (h x y u : ℕ) → x < y → h * 2 ^ x ≤ weigh h y u
 unfolding weigh
