@@ -1,11 +1,12 @@
 -- The definitions at single values, worked out. Assumes nothing.
 use mathlib.Core.Path.{_≡_, refl}
-use Prim.Native.Nat.{ℕ, suc, _*_}
+use Prim.Native.Nat.{ℕ, suc, _+_, _*_, _^_}
 use native.Mathlib.Nat.{not-le-of-lt}
 use mathlib.Core.Bool.{Bool, true, false}
 use lib.Dec.{lit<}
 use lib.Ieee.{Float, nan, inf, binary32, binary64, neg, le, ofBits, fits, top}
 use Rattle.ieee.specs.Value.{one, mag, over, under, Within}
+use Rattle.ieee.specs.Rounded.{rounding}
 use Rattle.ieee.specs.Range.{between, within}
 use Rattle.ieee.proofs.Magnitude.{literal-within}
 
@@ -60,6 +61,11 @@ minus = (refl, refl)
 unit : mag binary64 tiny ≡ 1
 unfolding tiny ofBits mag one
 unit = refl
+
+-- binary32 keeps 24 digits: of two values that are as near, the one with the even last digit
+ties : (rounding binary32 (2 ^ 24 + 1) 1 ≡ 2 ^ 24) × (rounding binary32 (2 ^ 24 + 3) 1 ≡ 2 ^ 24 + 4) × (rounding binary32 (2 ^ 25 + 3) 1 ≡ 2 ^ 25 + 4)
+unfolding rounding lib.Ieee.size
+ties = (refl, refl, refl)
 
 -- a bound is reached, and it is the least
 million-within : Within binary64 limit 1000000
