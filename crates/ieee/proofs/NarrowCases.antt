@@ -1,13 +1,13 @@
 -- The pattern of a narrowed magnitude, by the exponent's field x of the f64: zero below 873, subnormal below 897, normal below 1151,
 -- and an infinity from there on. An f64 has 29 digits more than an f32, and 897 is the field of the smallest normal f32.
 use mathlib.Core.Path.{_≡_, refl, sym, ap, _∙_, subst}
-use mathlib.Core.Logic.{_⊎_, inl, inr}
-use mathlib.Core.Bool.{Bool, true, false, not, cond}
+use mathlib.Core.Logic.{inl, inr}
+use mathlib.Core.Bool.{false}
 use Prim.Native.Nat.{ℕ, zero, suc, _+_, _-_, _*_, _/_, _%_, _^_, _≤_, _<_, min, compare}
-use native.Mathlib.Nat.{zero-add, le-trans, lt-of-lt-of-le, lt-of-le-of-lt, min-eq-left, min-eq-right, mod-eq-of-lt, div-eq-of-lt, le-div-iff-mul-le}
+use native.Mathlib.Nat.{zero-add, le-trans, lt-of-lt-of-le, min-eq-left, min-eq-right, mod-eq-of-lt, div-eq-of-lt, le-div-iff-mul-le}
 use native.Mathlib.Omega.{arith}
 use lib.Pow.{pow-mono, pow-pos, shr-lt}
-use lib.Ieee.{Format, binary32, binary64, prec, low, hid, ones, ofFields, toBits}
+use lib.Ieee.{binary32, binary64, low, hid, ones, ofFields, toBits}
 use lib.Ieee.Fits.{nearest-le}
 use lib.Ieee.Nearest.{closest, nearest-ge}
 use Rattle.ieee.specs.Convert.{narrowed}

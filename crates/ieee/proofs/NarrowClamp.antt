@@ -1,12 +1,10 @@
 -- What is clamped to ±1,000,000 is finite, and stays so when it is narrowed.
 use mathlib.Core.Path.{_≡_, refl, sym, ap, _∙_, subst}
 use mathlib.Core.Bool.{Bool, true, false, not, _&&_, _||_, Bool·beq, cond}
-use Prim.Native.Nat.{ℕ, zero, suc, _*_, _^_, _≤_, _<_}
+use Prim.Native.Nat.{ℕ, zero, suc, _*_, _^_, _≤_}
 use native.Mathlib.Omega.{arith}
-use native.Mathlib.Nat.{mul-one}
 use borrow.Author.Tests.{eq-eqb}
 use lib.Dec.{T, ltb, eqb, nltb→le}
-use lib.IntN.{pos}
 use lib.Ieee.{Float, nan, inf, fin, Format, binary32, binary64, prec, low, up, down, odd, units, round, isNan, lt, le, eq, ne, neg, ofBits}
 use lib.Ieee.Fits.{round-is, down-pos}
 use lib.Ieee.Order.{drop, kept, round-mono}

@@ -5,7 +5,7 @@ use mathlib.Core.Path.{_≡_, refl, sym, ap, _∙_, subst}
 use mathlib.Core.Logic.{_⊎_, inl, inr}
 use mathlib.Core.Bool.{Bool, true, false, not, cond}
 use Prim.Native.Nat.{ℕ, zero, suc, _+_, _-_, _*_, _/_, _%_, _^_, _≤_, _<_, min, compare}
-use native.Mathlib.Nat.{le-trans, le-of-eq, le-antisymm, lt-of-lt-of-le, lt-of-le-of-lt, lt-of-not-le, lt-irrefl, eq-or-lt-of-le, add-assoc, mul-assoc, mul-one, mul-comm, mul-le-mul-right, mul-lt-mul-of-pos-right, mul-pos, mul-div-cancel, div-one, div-div-eq-div-mul, le-div-iff-mul-le, div-lt-iff-lt-mul, le-of-mul-le-mul-right, min-eq-left, min-eq-right, two-pow-succ, suc-mul, add-mul, le-of-suc-le-suc}
+use native.Mathlib.Nat.{le-trans, le-of-eq, le-antisymm, lt-of-lt-of-le, lt-of-le-of-lt, lt-of-not-le, lt-irrefl, eq-or-lt-of-le, add-assoc, mul-one, mul-le-mul-right, mul-div-cancel, div-div-eq-div-mul, le-div-iff-mul-le, le-of-mul-le-mul-right, min-eq-left, min-eq-right, two-pow-succ, suc-mul, add-mul, le-of-suc-le-suc}
 use native.Mathlib.Omega.{arith}
 use lib.Dec.{T, ltb, ltb→lt, nltb→le}
 use lib.Pow.{pow-add, pow-pos, pow-mono, pow-lt, shl-lt}
@@ -13,7 +13,7 @@ use lib.Ieee.{Float, nan, inf, fin, Format, binary32, binary64, prec, emax, low,
 use lib.Ieee.Digits.{size-lt, size-le, size-reaches}
 use lib.Ieee.Fits.{nearest-le, kept-lt, round-is, two, two-le-pos, down-pos}
 use lib.Ieee.Exact.{HasValue, odd-sign}
-use lib.Ieee.Nearest.{closest, closest-same, nearest-ge}
+use lib.Ieee.Nearest.{nearest-ge}
 use lib.Ieee.Order.{drop, kept}
 use lib.Ieee.Scale.{overflow}
 

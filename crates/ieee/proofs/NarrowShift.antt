@@ -1,6 +1,6 @@
 -- The pattern of m * 2 ^ i / 2 ^ l, rounded: m shifted right by as many places as leave the format's digits, to the nearest number.
 -- One law for subnormal results, where nothing is counted into the exponent's field (k = 0), and for normal ones.
-use mathlib.Core.Path.{_≡_, refl, sym, ap, _∙_, subst}
+use mathlib.Core.Path.{_≡_, sym, ap, _∙_, subst}
 use Prim.Native.Nat.{ℕ, zero, suc, _+_, _-_, _*_, _/_, _^_, _≤_, _<_, min}
 use native.Mathlib.Nat.{le-trans, le-of-eq, lt-of-lt-of-le, mul-assoc, mul-le-mul-right, mul-lt-mul-of-pos-right, mul-pos, le-div-iff-mul-le, div-lt-iff-lt-mul}
 use native.Mathlib.Omega.{arith}

@@ -1,10 +1,10 @@
 -- f64 to f32, document 01, "Spans, marks and order": "llr: the sum clamped to ±1,000,000, then nearest-even to f32."
 use Prim.Native.Nat.{_*_}
 use mathlib.Core.Path.{_≡_}
-use mathlib.Core.Bool.{Bool, true, false, not, cond}
+use mathlib.Core.Bool.{true, false, cond}
 use lib.Dec.{T}
 use lib.IntN.{pos}
-use lib.Ieee.{Float, nan, inf, fin, binary32, up, down, round, lt, isNan, fits}
+use lib.Ieee.{Float, nan, inf, fin, binary32, up, down, round, lt, isNan}
 use lib.Ieee.Scale.{finite}
 use Rattle.ieee.specs.TotalOrder.{Comparable}
 

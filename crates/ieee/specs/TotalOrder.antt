@@ -1,7 +1,7 @@
 -- The total order of floats that are no NaN, in which the ranking compares (document 01, "Spans, marks and order":
 -- "Ranking: stable, descending, `total_cmp`"), and the number of a value in it.
 use Prim.Native.Nat.{ℕ, _+_, _-_, _*_}
-use mathlib.Core.Bool.{Bool, true, false, not, _&&_, _||_, cond}
+use mathlib.Core.Bool.{Bool, false, not, _&&_, _||_, cond}
 use lib.Dec.{T, ltb}
 use lib.Ieee.{Float, nan, inf, fin, Format, lt, eq, fits, isNan, top, toBits}
 

@@ -1,11 +1,10 @@
 -- Each branch of `narrow_magnitude` is a case of proofs/NarrowCases.antt.
 use mathlib.Core.Path.{_≡_, sym, ap, _∙_}
 use mathlib.Core.Bool.{false}
-use Prim.Native.Nat.{ℕ, _+_, _-_, _*_, _/_, _%_, _^_, _≤_, _<_}
+use Prim.Native.Nat.{ℕ, _+_, _-_, _*_, _/_, _%_, _≤_}
 use native.Mathlib.Omega.{arith}
 use borrow.Author.Needs.{needs}
 use lib.Ieee.{Float, binary32, binary64, hid, ones, ofFields, ofBits, toBits}
-use lib.Ieee.Nearest.{closest}
 use Rattle.ieee.specs.Convert.{narrowed}
 use Rattle.ieee.proofs.NarrowFields.{number, magnitude-fields}
 use Rattle.ieee.proofs.NarrowCases.{closest-le, to-zero, to-subnormal, to-normal, to-infinite}

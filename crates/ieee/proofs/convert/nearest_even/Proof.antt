@@ -1,6 +1,6 @@
 -- `nearest_even` is `closest m (2 ^ by)`: each branch is one way in which twice the remainder compares with the divisor.
-use mathlib.Core.Path.{_≡_, sym, _∙_, subst, subst₂}
-use Prim.Native.Nat.{ℕ, _+_, _-_, _*_, _/_, _%_, _^_, _≤_, _<_}
+use mathlib.Core.Path.{_≡_, sym, _∙_, subst₂}
+use Prim.Native.Nat.{ℕ, _+_, _*_, _/_, _%_, _^_, _≤_, _<_}
 use native.Mathlib.Nat.{mod-lt, lt-of-lt-of-le}
 use lib.Arith.{lt-of-le-ne}
 use native.Mathlib.Omega.{arith}

@@ -4,7 +4,7 @@ use native.Mathlib.Omega.{arith}
 use lib.Dec.{T}
 use borrow.Author.Needs.{needs}
 use borrow.Author.Tests.{lt-ltb, le-ltb}
-use lib.Ieee.{binary32, toBits, top}
+use lib.Ieee.{binary32}
 use lib.Ieee.Bits.{toBits-lt}
 use Rattle.ieee.specs.TotalOrder.{totalKey}
 use Rattle.ieee.proofs.total_order.total_key.Statement.{statement}

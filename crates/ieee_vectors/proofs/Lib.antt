@@ -1,0 +1,2 @@
+-- What the test program's proofs share.
+mod Patterns
