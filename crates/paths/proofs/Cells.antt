@@ -86,6 +86,13 @@ unfolding carry
 carry-carry g f empty = refl
 carry-carry g f (held a) = refl
 
+-- steps that agree on what the cell holds
+pub carry-same :
+    {A B : Type 0} {P : A → Type 0} (f g : A → B) (c : Cell A) → ((a : A) → P a → f a ≡ g a) → Every P c → carry f c ≡ carry g c
+unfolding carry
+carry-same f g empty same every = refl
+carry-same f g (held a) same (every-held p) = ap held (same a p)
+
 pub carry-only : {A B : Type 0} (f : A → B) (b : Bool) (c : Cell A) → carry f (only b c) ≡ only b (carry f c)
 unfolding only carry
 carry-only f true c = refl

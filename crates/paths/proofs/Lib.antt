@@ -15,3 +15,5 @@ pub mod Demanded
 pub mod Finite
 pub mod PhraseFigures
 pub mod Answers
+pub mod Keeping
+pub mod Marks
