@@ -5,10 +5,10 @@ use mathlib.Core.Path.{_≡_, refl, sym, ap, subst, _∙_}
 use mathlib.Core.Bool.{Bool, not}
 use lib.Dec.{T}
 use Rattle.paths.specs.Cell.{Cell, empty, held, keep, carry}
-use Rattle.paths.specs.System.{System, Route, start, step, Runs, opening, going, stateOf, valueOf, Layered}
+use Rattle.paths.specs.System.{System, Route, start, step, Runs, opening, going, Ends, stateOf, valueOf, Layered}
 use Rattle.paths.specs.Table.{Table, bestRoutes}
-use Rattle.paths.proofs.Cells.{Every, every-empty, every-held, every-at, Some, some-held, some-at, some-filled, every-keep, some-keep, some-keep-later}
-use Rattle.paths.proofs.Tables.{Invariant, Reaching, everywhere, reached}
+use Rattle.paths.proofs.Cells.{Every, every-empty, every-held, every-at, Some, some-held, some-at, some-filled, every-keep, every-carry, some-keep, some-keep-later}
+use Rattle.paths.proofs.Tables.{start-ends, step-ends, Invariant, Reaching, everywhere, reached}
 
 -- `R u v`, v is at least as large as u, is an order of the values that are Ok, comparison decides it, and the steps respect it.
 pub record Ordered {X E W : Type 0} (S : System X E W) (Ok : W → Type 0) (R : W → W → Type 0) : Type 0 where
@@ -20,24 +20,15 @@ pub record Ordered {X E W : Type 0} (S : System X E W) (Ok : W → Type 0) (R : 
       (x : X) (e : E) (u v : W) → S .allows x e → Ok u → Ok v → Ok (S .next x e u) → Ok (S .next x e v) → R u v →
       R (S .next x e u) (S .next x e v)
 
--- a route of the system that ends at x
-pub record Ends {X E W : Type 0} (S : System X E W) (x : X) (r : Route X E) : Type 0 where
-  pub runs : Runs S r
-  pub ends : stateOf S r ≡ x
-
 module _ {X E W : Type 0} (S : System X E W) (layered : Layered S) (t : X → Cell (Route X E)) (is : Table S (bestRoutes S) t) where
   holds-route : Invariant S (bestRoutes S) t (λ x. Every (Ends S x))
-  unfolding bestRoutes stateOf
+  unfolding bestRoutes
   holds-route = record {
     nothing = λ x. every-empty;
     join = λ x c d. every-keep _;
-    begins = λ x o. every-held (record { runs = opening o; ends = refl });
-    along = λ y e allow. stepped y e allow (t y);
+    begins = λ x o. every-held (start-ends S o);
+    along = λ y e allow. every-carry (λ r. step r e) (t y) (λ r h. step-ends S e allow);
   }
-    where
-      stepped : (y : X) (e : E) → S .allows y e → (c : Cell (Route X E)) → Every (Ends S y) c → Every (Ends S (S .leads y e)) (carry (λ r. step r e) c)
-      stepped y e allow empty every = every-empty
-      stepped y e allow (held r) (every-held at) = every-held (record { runs = going (at .runs) (subst (λ z. S .allows z e) (sym (at .ends)) allow); ends = ap (λ z. S .leads z e) (at .ends) })
 
   -- what a cell holds is a route that ends there
   pub best-ends : (x : X) (r : Route X E) → t x ≡ held r → Ends S x r

@@ -40,7 +40,15 @@ some-at {P = P} (some-held p) e = subst P (held-same e) p
 pub some-filled : {A : Type 0} {P : A → Type 0} {c : Cell A} → Some P c → c ≡ empty → ⊥
 some-filled (some-held p) e = not-both e refl
 
--- The rest is over one comparison of what cells hold.
+-- a step from a cell, told what the cell holds
+pub every-carry :
+    {A B : Type 0} {P : A → Type 0} {Q : B → Type 0} (f : A → B) (c : Cell A) →
+    ((a : A) → c ≡ held a → P a → Q (f a)) → Every P c → Every Q (carry f c)
+unfolding carry
+every-carry f empty step every = every-empty
+every-carry f (held a) step (every-held p) = every-held (step a refl p)
+
+-- over one comparison of what cells hold
 module _ {A : Type 0} (less : A → A → Bool) where
   pub every-keep : {P : A → Type 0} {c d : Cell A} → Every P c → Every P d → Every P (keep less c d)
   unfolding keep

@@ -10,10 +10,10 @@ use Rattle.paths.specs.Problem.{Problem}
 use Rattle.paths.specs.Path.{Path, count, value, sum, Admitted, Best, NoPath}
 use Rattle.paths.specs.Cell.{Cell, empty, held, carry, only}
 use Rattle.paths.specs.CellRule.{chosenPath}
-use Rattle.paths.specs.System.{Route, step, Runs, stateOf, valueOf}
+use Rattle.paths.specs.System.{Route, step, Runs, Ends, stateOf, valueOf}
 use Rattle.paths.specs.PathSystem.{State, done, Move, stop, pathSystem, route}
 use Rattle.paths.proofs.Cells.{only-true}
-use Rattle.paths.proofs.BestRoutes.{Ordered, Ends, best-ends, best-largest, empty-none, none-empty}
+use Rattle.paths.proofs.BestRoutes.{Ordered, best-ends, best-largest, empty-none, none-empty}
 use Rattle.paths.proofs.PathWays.{layered}
 use Rattle.paths.proofs.PathRoutes.{ended-value, ended-state, admitted-ends, ends-admitted, Seen, seen-path, seen-end, seen, route-value}
 use Rattle.paths.proofs.Rows.{cells, rows-table}

@@ -8,18 +8,13 @@ use lib.Dec.{T}
 use Rattle.paths.specs.Problem.{Problem}
 use Rattle.paths.specs.Cell.{Cell, empty, held, keep, best, carry, only}
 use Rattle.paths.specs.CellRule.{Keeping, sweep, arrival, rows}
-use Rattle.paths.proofs.Cells.{Every, every-empty, every-held, every-at, every-keep, carry-carry, carry-same, carry-only, carry-keep, carry-best}
+use Rattle.paths.proofs.Cells.{Every, every-empty, every-held, every-keep, every-carry, carry-carry, carry-same, carry-only, carry-keep, carry-best}
 
 -- P holds of every start, and passes along gaps and units from what the rows hold
 pub record Carried {A : Type 0} (q : Problem) (kept : Keeping A) (P : ℕ → ℕ → A → Type 0) : Type 0 where
   pub starts : (j : ℕ) → P zero j (kept .fresh j)
   pub gaps : (s j : ℕ) (a : A) → rows q kept s j ≡ held a → P s j a → P s (suc j) (kept .overGap j a)
   pub units : (s i j : ℕ) (a : A) → i < j → T (q .unitOk i j) → rows q kept s i ≡ held a → P s i a → P (suc s) j (kept .overUnit s i j a)
-
-every-carry : {A B : Type 0} {P : A → Type 0} {Q : B → Type 0} (f : A → B) (c : Cell A) → ((a : A) → c ≡ held a → P a → Q (f a)) → Every P c → Every Q (carry f c)
-unfolding carry
-every-carry f empty step every = every-empty
-every-carry f (held a) step (every-held p) = every-held (step a refl p)
 
 module _ {A : Type 0} (q : Problem) (kept : Keeping A) (P : ℕ → ℕ → A → Type 0) (carried : Carried q kept P) where
   swept : (s j : ℕ) (arrived : ℕ → Cell A) → ((j : ℕ) → Every (P s j) (arrived j)) →

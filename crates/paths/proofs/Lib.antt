@@ -3,6 +3,8 @@ mod Tests
 pub mod Cells
 pub mod Tables
 pub mod BestRoutes
+pub mod NotedRoutes
+pub mod AllRoutes
 pub mod PathWays
 pub mod PathRoutes
 pub mod Rows
