@@ -19,3 +19,4 @@ pub mod PhraseFigures
 pub mod Answers
 pub mod Keeping
 pub mod Marks
+pub mod Examples
