@@ -2,14 +2,13 @@
 -- the lengths of those lists.
 use Prim.Native.Nat.{ℕ, zero, suc, _+_, _<_}
 use native.Mathlib.Omega.{arith}
-use mathlib.Core.Path.{_≡_, refl, sym, ap, ap₂, subst, _∙_}
-use mathlib.Core.Logic.{_⊎_, inl, inr}
+use mathlib.Core.Path.{_≡_, refl, sym, ap, subst, _∙_}
 use mathlib.Core.List.{List, [], _∷_, _++_, map}
 use native.Mathlib.Nat.{zero-add, suc-add}
 use lib.ListN.{length, length-append}
-use Rattle.paths.specs.System.{System, Route, start, step, Way, fresh, after, Ways, none, _then_, In, last, earlier, Once, once-none, once-then, Runs, opening, going, Ends, stateOf, lastWay, Layered}
-use Rattle.paths.specs.Table.{Kind, gather, bring, Table, allRoutes, routeCount, At, at-first, at-next}
-use Rattle.paths.proofs.Tables.{start-ends, step-ends, Invariant, Reaching, everywhere, reached, Respects, image}
+use Rattle.paths.specs.System.{System, Route, start, step, Way, fresh, after, Ways, none, _then_, In, last, earlier, Once, once-then, Ends, lastWay, Layered}
+use Rattle.paths.specs.Table.{gather, bring, Table, allRoutes, routeCount, At, at-first, at-next}
+use Rattle.paths.proofs.Tables.{start-ends, step-ends, Invariant, Reaching, everywhere, reached, image}
 
 -- a place in joined lists, by the list that it is in
 data Split {A : Type 0} (a : A) (s t : List A) (n : ℕ) : Type 0 where
@@ -90,7 +89,8 @@ module _ {X E W : Type 0} (S : System X E W) (layered : Layered S) (t : X → Li
   -- every route that ends there is listed
   pub ends-listed : (x : X) (r : Route X E) → Ends S x r → Listed r (t x)
   unfolding allRoutes
-  ends-listed x r at = subst (λ z. Listed r (t z)) (at .ends) (reached S layered allRoutes t is (λ x s. Unit {0}) anything Listed listing (at .runs))
+  ends-listed x r at =
+      subst (λ z. Listed r (t z)) (at .ends) (reached S layered allRoutes t is (λ x s. Unit {0}) anything Listed listing (at .runs))
     where
       anything : Invariant S allRoutes t (λ x s. Unit {0})
       anything = record { nothing = λ x. tt; join = λ x s u a b. tt; begins = λ x o. tt; along = λ y e allow a. tt }
@@ -132,7 +132,8 @@ module _ {X E W : Type 0} (S : System X E W) (layered : Layered S) (t : X → Li
   unfolding gather allRoutes
   gathered-once x none once each r n m i k = elim i [ ]
   gathered-once x (ws then w) (once-then once new) each r n m i k =
-      go (gathered-once x ws once (λ u at. each u (earlier at)) r) (at-split (gather allRoutes t x ws) i) (at-split (gather allRoutes t x ws) k)
+      go (gathered-once x ws once (λ u at. each u (earlier at)) r) (at-split (gather allRoutes t x ws) i)
+      (at-split (gather allRoutes t x ws) k)
     where
       so-far : List (Route X E)
       so-far = gather allRoutes t x ws

@@ -1,7 +1,7 @@
--- What a cell holds: two predicates, and what keeping, carrying and choosing do to them.
-use Prim.Native.Nat.{ℕ, zero, suc, _<_}
+-- What a cell holds: two predicates, and what keeping and carrying do to them; and the equations of keeping, carrying and choosing.
+use Prim.Native.Nat.{ℕ, zero, suc}
 use native.Mathlib.Omega.{arith}
-use mathlib.Core.Path.{_≡_, refl, sym, ap, ap₂, subst, _∙_}
+use mathlib.Core.Path.{_≡_, refl, ap, ap₂, subst, _∙_}
 use mathlib.Core.Bool.{Bool, true, false, not, cond}
 use lib.Dec.{T}
 use Rattle.paths.specs.Cell.{Cell, empty, held, keep, best, carry, only}
@@ -15,24 +15,15 @@ pub data Every {A : Type 0} (P : A → Type 0) : Cell A → Type 0 where
 pub data Some {A : Type 0} (P : A → Type 0) : Cell A → Type 0 where
   some-held : {a : A} → P a → Some P (held a)
 
-pub held-same : {A : Type 0} {a b : A} → held a ≡ held b → a ≡ b
+held-same : {A : Type 0} {a b : A} → held a ≡ held b → a ≡ b
 held-same e = cc
 
-pub not-both : {A : Type 0} {c : Cell A} {a : A} → c ≡ empty → c ≡ held a → ⊥
+not-both : {A : Type 0} {c : Cell A} {a : A} → c ≡ empty → c ≡ held a → ⊥
 not-both e f = let z : _≡_ {A = ℕ} 0 1 = cc in omega arith
-
--- a test that is split on
-pub by-test : {X : Type 0} (b : Bool) → (T b → X) → (T (not b) → X) → X
-by-test true passed failed = passed tt
-by-test false passed failed = failed tt
 
 pub every-at : {A : Type 0} {P : A → Type 0} {c : Cell A} {a : A} → Every P c → c ≡ held a → P a
 every-at {P = P} every-empty e = absurd (not-both refl e)
 every-at {P = P} (every-held p) e = subst P (held-same e) p
-
-pub every-map : {A : Type 0} {P Q : A → Type 0} {c : Cell A} → ((a : A) → P a → Q a) → Every P c → Every Q c
-every-map f every-empty = every-empty
-every-map f (every-held {a = a} p) = every-held (f a p)
 
 pub some-at : {A : Type 0} {P : A → Type 0} {c : Cell A} {a : A} → Some P c → c ≡ held a → P a
 some-at {P = P} (some-held p) e = subst P (held-same e) p

@@ -6,7 +6,7 @@ use mathlib.Core.Path.{_≡_, refl, sym, ap, ap₂, fun-ext, _∙_}
 use mathlib.Core.Bool.{Bool, true, false}
 use lib.Dec.{T}
 use Rattle.paths.specs.Problem.{Problem}
-use Rattle.paths.specs.Cell.{Cell, empty, held, keep, best, carry, only}
+use Rattle.paths.specs.Cell.{Cell, held, keep, best, carry, only}
 use Rattle.paths.specs.CellRule.{Keeping, sweep, arrival, rows}
 use Rattle.paths.proofs.Cells.{Every, every-empty, every-held, every-keep, every-carry, carry-carry, carry-same, carry-only, carry-keep, carry-best}
 
@@ -25,7 +25,9 @@ module _ {A : Type 0} (q : Problem) (kept : Keeping A) (P : ℕ → ℕ → A �
       every-keep (kept .less) (every (suc j))
       (every-carry (kept .overGap j) (sweep kept arrived j) (λ a e. carried .gaps s j a (sym (is j) ∙ e)) (swept s j arrived every is))
 
-  arrived-below : (s j m : ℕ) → m ≤ j → ((i : ℕ) → Every (P s i) (rows q kept s i)) → Every (P (suc s) j) (best (kept .less) m (arrival q kept s (rows q kept s) j))
+  arrived-below :
+      (s j m : ℕ) → m ≤ j → ((i : ℕ) → Every (P s i) (rows q kept s i)) →
+      Every (P (suc s) j) (best (kept .less) m (arrival q kept s (rows q kept s) j))
   unfolding best arrival only
   arrived-below s j zero l every = every-empty
   arrived-below s j (suc m) l every = every-keep (kept .less) (arrived-below s j m (omega arith) every) (go (q .unitOk m j) (λ t. t))
@@ -39,7 +41,8 @@ module _ {A : Type 0} (q : Problem) (kept : Keeping A) (P : ℕ → ℕ → A �
   unfolding rows
   rows-every zero j = swept zero j (λ j. held (kept .fresh j)) (λ j. every-held (carried .starts j)) (λ j. refl)
   rows-every (suc s) j =
-      swept (suc s) j (λ j. best (kept .less) j (arrival q kept s (rows q kept s) j)) (λ j. arrived-below s j j (omega arith) (rows-every s)) (λ j. refl)
+      swept (suc s) j (λ j. best (kept .less) j (arrival q kept s (rows q kept s) j))
+      (λ j. arrived-below s j j (omega arith) (rows-every s)) (λ j. refl)
 
 -- another thing is kept of the same paths: f gives it, where P holds of them
 pub record Same {A B : Type 0} (q : Problem) (kept : Keeping A) (other : Keeping B) (P : ℕ → ℕ → A → Type 0) (f : A → B) : Type 0 where

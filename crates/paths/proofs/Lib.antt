@@ -1,4 +1,4 @@
--- What is proved of paths and of the problems of a phrase, and of layered systems in general.
+-- What is proved of layered systems in general, of paths and the cell rule, and of the problems of a phrase.
 mod Tests
 pub mod Cells
 pub mod Tables
@@ -10,6 +10,9 @@ pub mod PathRoutes
 pub mod Rows
 pub mod Chosen
 pub mod Optimal
+pub mod Keeping
+pub mod Marks
+pub mod Examples
 pub mod Frames
 pub mod Anchors
 pub mod LookAhead
@@ -17,6 +20,3 @@ pub mod Demanded
 pub mod Finite
 pub mod PhraseFigures
 pub mod Answers
-pub mod Keeping
-pub mod Marks
-pub mod Examples

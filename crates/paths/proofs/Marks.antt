@@ -5,13 +5,13 @@ use mathlib.Core.Path.{_≡_, refl, sym, ap, ap₂, fun-ext, subst, _∙_}
 use mathlib.Core.List.{List, [], _∷_, _++_}
 use lib.Dec.{T}
 use lib.ListN.{length, length-append}
-use lib.Ieee.{Float, binary64, add, sub, lt}
+use lib.Ieee.{binary64, add, sub, lt}
 use Rattle.paths.specs.Problem.{Problem}
 use Rattle.paths.specs.Path.{Path, begin, gap, unit, end, count, value, sum}
-use Rattle.paths.specs.Cell.{Cell, empty, held, best, carry}
-use Rattle.paths.specs.CellRule.{Keeping, rows, paths, chosenPath}
+use Rattle.paths.specs.Cell.{held, best, carry}
+use Rattle.paths.specs.CellRule.{rows, paths, chosenPath}
 use Rattle.paths.specs.Marks.{Marked, marks, markOf, marked, markAt, End, ended, chosenEnd, Bounds, unitsOf, Traces, started, crossed, united}
-use Rattle.paths.proofs.Cells.{Every, every-at, every-held, carry-carry, carry-same, carry-best}
+use Rattle.paths.proofs.Cells.{Every, every-at, carry-carry, carry-same, carry-best}
 use Rattle.paths.proofs.Keeping.{Carried, rows-every, Same, rows-same}
 
 -- Where a path that the rows hold comes from: its last step is taken from what the rows hold before it.
@@ -52,7 +52,8 @@ module _ (q : Problem) where
         less = λ p r. refl;
         starts = λ j. refl;
         gaps = λ s j p at. ap (λ i. record { value = sub binary64 (value q p) (q .gapCost i); mark = 2 }) (at .ends);
-        units = λ s i j p at. ap₂ (λ n b. record { value = add binary64 (value q p) (q .unitValue n b j); mark = 3 + b }) (at .counts) (at .ends);
+        units = λ s i j p at.
+            ap₂ (λ n b. record { value = add binary64 (value q p) (q .unitValue n b j); mark = 3 + b }) (at .counts) (at .ends);
       }
 
   -- the end that code chooses is that of the path chosen
@@ -85,7 +86,8 @@ module _ (q : Problem) where
       where
         go : {s j : ℕ} (p : Path) → Kept q s j p → s ≤ k → j < q .size → mark s j ≡ markOf p → Traces mark s j (unitsOf p)
         go (begin j) kept-begin a b m = started m
-        go (gap p) (kept-gap {s = s} {j = j} e) a b m = crossed m (go p (rows-kept s j p e) a (omega arith) (agree s j a (omega arith) ∙ mark-of s j p e))
+        go (gap p) (kept-gap {s = s} {j = j} e) a b m =
+            crossed m (go p (rows-kept s j p e) a (omega arith) (agree s j a (omega arith) ∙ mark-of s j p e))
         go (unit p j) (kept-unit {s = s} {i = i} l ok e) a b m =
             let at : end p ≡ i = every-at (rows-stand s i) e .ends in
             subst (λ z. Traces mark (suc s) j (unitsOf p ++ (record { first = z; last = j } ∷ []))) (sym at)

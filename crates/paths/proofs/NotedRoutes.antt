@@ -2,8 +2,8 @@
 use Prim.Native.Nat.{ℕ}
 use native.Mathlib.Omega.{arith}
 use mathlib.Core.Path.{_≡_, refl, sym, ap, ap₂, fun-ext, subst, _∙_}
-use Rattle.paths.specs.Cell.{Cell, empty, held, keep, carry}
-use Rattle.paths.specs.System.{System, Route, start, step, Way, fresh, after, stateOf, valueOf, lastWay, Layered}
+use Rattle.paths.specs.Cell.{Cell, empty, held, carry}
+use Rattle.paths.specs.System.{System, Route, start, step, fresh, after, stateOf, valueOf, lastWay, Layered}
 use Rattle.paths.specs.Table.{Table, bestRoutes, Noted, bestNotes}
 use Rattle.paths.proofs.Cells.{Every, every-empty, every-held, every-at, every-keep, every-carry, carry-keep}
 use Rattle.paths.proofs.Tables.{Invariant, everywhere, only-table, Respects, image}
@@ -16,7 +16,9 @@ noted S r = record { value = valueOf S r; way = lastWay S r }
 -- Following the notes from a state back to where a route begins.
 pub data Follows {X E W : Type 0} (notes : X → Cell (Noted X E W)) : X → Route X E → Type 0 where
   begun : {x : X} {a : Noted X E W} → notes x ≡ held a → a .way ≡ fresh → Follows notes x (start x)
-  came : {x y : X} {e : E} {r : Route X E} {a : Noted X E W} → notes x ≡ held a → a .way ≡ after y e → Follows notes y r → Follows notes x (step r e)
+  came :
+      {x y : X} {e : E} {r : Route X E} {a : Noted X E W} → notes x ≡ held a → a .way ≡ after y e → Follows notes y r →
+      Follows notes x (step r e)
 
 -- a route that the table holds was made from what it holds before
 data Prefixed {X E W : Type 0} (S : System X E W) (t : X → Cell (Route X E)) : Route X E → Type 0 where
@@ -31,7 +33,8 @@ module _ {X E W : Type 0} (S : System X E W) (layered : Layered S) (t : X → Ce
     where
       stepped :
           (y : X) (e : E) (c : Cell (Route X E)) → ((r : Route X E) → c ≡ held r → stateOf S r ≡ y) →
-          carry (noted S) (carry (λ r. step r e) c) ≡ carry (λ a. record { value = S .next y e (a .value); way = after y e }) (carry (noted S) c)
+          carry (noted S) (carry (λ r. step r e) c) ≡
+          carry (λ a. record { value = S .next y e (a .value); way = after y e }) (carry (noted S) c)
       stepped y e empty at = refl
       stepped y e (held r) at = ap (λ z. held (record { value = S .next z e (valueOf S r); way = after z e })) (at r refl)
 
@@ -56,7 +59,8 @@ module _ {X E W : Type 0} (S : System X E W) (layered : Layered S) (t : X → Ce
       }
 
   -- the notes of any table of them lead back to the best route
-  pub notes-follow : (notes : X → Cell (Noted X E W)) → Table S (bestNotes S) notes → (x : X) (r : Route X E) → t x ≡ held r → Follows notes x r
+  pub notes-follow :
+      (notes : X → Cell (Noted X E W)) → Table S (bestNotes S) notes → (x : X) (r : Route X E) → t x ≡ held r → Follows notes x r
   unfolding carry stateOf lastWay
   notes-follow notes are x r e =
       subst (λ n. Follows n x r) (fun-ext (only-table S layered (bestNotes S) (λ x. carry (noted S) (t x)) notes-table notes are))
@@ -70,7 +74,8 @@ module _ {X E W : Type 0} (S : System X E W) (layered : Layered S) (t : X → Ce
       go (step r e) (prefix h) at = came (ap (carry (noted S)) at) refl (go r (every-at (prefixed (stateOf S r)) h) h)
 
 -- and to no other
-pub follows-same : {X E W : Type 0} {notes : X → Cell (Noted X E W)} {x : X} {r u : Route X E} → Follows notes x r → Follows notes x u → r ≡ u
+pub follows-same :
+    {X E W : Type 0} {notes : X → Cell (Noted X E W)} {x : X} {r u : Route X E} → Follows notes x r → Follows notes x u → r ≡ u
 follows-same (begun a w) (begun b v) = refl
 follows-same (begun {a = n} a w) (came {a = m} b v g) = absurd (let same : n ≡ m = cc in let z : _≡_ {A = ℕ} 0 1 = cc in omega arith)
 follows-same (came {a = n} a w f) (begun {a = m} b v) = absurd (let same : n ≡ m = cc in let z : _≡_ {A = ℕ} 0 1 = cc in omega arith)

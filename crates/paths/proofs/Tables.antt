@@ -1,6 +1,6 @@
 -- What holds of any table of a layered system: two ways to prove something of its cells, that tables exist, that there is one only,
 -- and that a table's image under a map that respects its kind is a table.
-use Prim.Native.Nat.{ℕ, zero, suc, _<_, _≤_}
+use Prim.Native.Nat.{ℕ, zero, suc, _<_}
 use native.Mathlib.Omega.{arith}
 use mathlib.Core.Path.{_≡_, refl, sym, ap, ap₂, subst, _∙_}
 use Rattle.paths.specs.System.{System, Route, start, step, Way, fresh, after, Ways, none, _then_, In, last, earlier, Runs, opening, going, Ends, stateOf, Layered}
@@ -27,7 +27,8 @@ pub record Invariant {X E W C : Type 0} (S : System X E W) (kind : Kind X E C) (
   pub along : (y : X) (e : E) → S .allows y e → R y (t y) → R (S .leads y e) (kind .along y e (t y))
 
 -- P of a route passes from what its last way brings to the cell, where R holds of cells
-pub record Reaching {X E W C : Type 0} (S : System X E W) (kind : Kind X E C) (t : X → C) (R : X → C → Type 0) (P : Route X E → C → Type 0) : Type 0 where
+pub record Reaching {X E W C : Type 0}
+    (S : System X E W) (kind : Kind X E C) (t : X → C) (R : X → C → Type 0) (P : Route X E → C → Type 0) : Type 0 where
   pub earlier : (r : Route X E) → Runs S r → (x : X) (c d : C) → R x c → R x d → P r c → P r (kind .join c d)
   pub later : (r : Route X E) → Runs S r → (x : X) (c d : C) → R x c → R x d → P r d → P r (kind .join c d)
   pub begins : (x : X) → S .opens x → P (start x) (kind .begins x)
