@@ -1,7 +1,7 @@
--- What a cell holds: two predicates, and what keeping, carrying and choosing do to them.
-use Prim.Native.Nat.{ℕ, zero, suc, _<_}
+-- What a cell holds: two predicates, and what keeping and carrying do to them; and the equations of keeping, carrying and choosing.
+use Prim.Native.Nat.{ℕ, zero, suc}
 use native.Mathlib.Omega.{arith}
-use mathlib.Core.Path.{_≡_, refl, sym, ap, ap₂, subst, _∙_}
+use mathlib.Core.Path.{_≡_, refl, ap, ap₂, subst, _∙_}
 use mathlib.Core.Bool.{Bool, true, false, not, cond}
 use lib.Dec.{T}
 use Rattle.paths.specs.Cell.{Cell, empty, held, keep, best, carry, only}
@@ -15,24 +15,15 @@ pub data Every {A : Type 0} (P : A → Type 0) : Cell A → Type 0 where
 pub data Some {A : Type 0} (P : A → Type 0) : Cell A → Type 0 where
   some-held : {a : A} → P a → Some P (held a)
 
-pub held-same : {A : Type 0} {a b : A} → held a ≡ held b → a ≡ b
+held-same : {A : Type 0} {a b : A} → held a ≡ held b → a ≡ b
 held-same e = cc
 
-pub not-both : {A : Type 0} {c : Cell A} {a : A} → c ≡ empty → c ≡ held a → ⊥
+not-both : {A : Type 0} {c : Cell A} {a : A} → c ≡ empty → c ≡ held a → ⊥
 not-both e f = let z : _≡_ {A = ℕ} 0 1 = cc in omega arith
-
--- a test that is split on
-pub by-test : {X : Type 0} (b : Bool) → (T b → X) → (T (not b) → X) → X
-by-test true passed failed = passed tt
-by-test false passed failed = failed tt
 
 pub every-at : {A : Type 0} {P : A → Type 0} {c : Cell A} {a : A} → Every P c → c ≡ held a → P a
 every-at {P = P} every-empty e = absurd (not-both refl e)
 every-at {P = P} (every-held p) e = subst P (held-same e) p
-
-pub every-map : {A : Type 0} {P Q : A → Type 0} {c : Cell A} → ((a : A) → P a → Q a) → Every P c → Every Q c
-every-map f every-empty = every-empty
-every-map f (every-held {a = a} p) = every-held (f a p)
 
 pub some-at : {A : Type 0} {P : A → Type 0} {c : Cell A} {a : A} → Some P c → c ≡ held a → P a
 some-at {P = P} (some-held p) e = subst P (held-same e) p
@@ -40,7 +31,15 @@ some-at {P = P} (some-held p) e = subst P (held-same e) p
 pub some-filled : {A : Type 0} {P : A → Type 0} {c : Cell A} → Some P c → c ≡ empty → ⊥
 some-filled (some-held p) e = not-both e refl
 
--- The rest is over one comparison of what cells hold.
+-- a step from a cell, told what the cell holds
+pub every-carry :
+    {A B : Type 0} {P : A → Type 0} {Q : B → Type 0} (f : A → B) (c : Cell A) →
+    ((a : A) → c ≡ held a → P a → Q (f a)) → Every P c → Every Q (carry f c)
+unfolding carry
+every-carry f empty step every = every-empty
+every-carry f (held a) step (every-held p) = every-held (step a refl p)
+
+-- over one comparison of what cells hold
 module _ {A : Type 0} (less : A → A → Bool) where
   pub every-keep : {P : A → Type 0} {c d : Cell A} → Every P c → Every P d → Every P (keep less c d)
   unfolding keep
@@ -85,6 +84,13 @@ pub carry-carry : {A B C : Type 0} (g : B → C) (f : A → B) (c : Cell A) → 
 unfolding carry
 carry-carry g f empty = refl
 carry-carry g f (held a) = refl
+
+-- steps that agree on what the cell holds
+pub carry-same :
+    {A B : Type 0} {P : A → Type 0} (f g : A → B) (c : Cell A) → ((a : A) → P a → f a ≡ g a) → Every P c → carry f c ≡ carry g c
+unfolding carry
+carry-same f g empty same every = refl
+carry-same f g (held a) same (every-held p) = ap held (same a p)
 
 pub carry-only : {A B : Type 0} (f : A → B) (b : Bool) (c : Cell A) → carry f (only b c) ≡ only b (carry f c)
 unfolding only carry

@@ -3,17 +3,16 @@ use Prim.Native.Nat.{ℕ, _≤_}
 use native.Mathlib.Omega.{arith}
 use mathlib.Core.Path.{_≡_, refl, sym, ap, subst, subst₂, _∙_}
 use mathlib.Core.Logic.{_↔_}
-use mathlib.Core.Bool.{Bool}
 use lib.Dec.{T, leb, le→leb}
 use lib.Ieee.{Float, le}
 use Rattle.paths.specs.Problem.{Problem}
 use Rattle.paths.specs.Path.{Path, count, value, sum, Admitted, Best, NoPath}
-use Rattle.paths.specs.Cell.{Cell, empty, held, carry, only}
+use Rattle.paths.specs.Cell.{Cell, empty, held, carry}
 use Rattle.paths.specs.CellRule.{chosenPath}
-use Rattle.paths.specs.System.{Route, step, Runs, stateOf, valueOf}
+use Rattle.paths.specs.System.{Route, step, Runs, Ends, valueOf}
 use Rattle.paths.specs.PathSystem.{State, done, Move, stop, pathSystem, route}
 use Rattle.paths.proofs.Cells.{only-true}
-use Rattle.paths.proofs.BestRoutes.{Ordered, Ends, best-ends, best-largest, empty-none, none-empty}
+use Rattle.paths.proofs.BestRoutes.{Ordered, best-ends, best-largest, empty-none}
 use Rattle.paths.proofs.PathWays.{layered}
 use Rattle.paths.proofs.PathRoutes.{ended-value, ended-state, admitted-ends, ends-admitted, Seen, seen-path, seen-end, seen, route-value}
 use Rattle.paths.proofs.Rows.{cells, rows-table}
@@ -61,7 +60,8 @@ module _ (q : Problem) (k : ℕ) where
   pub chosen-empty : (chosenPath q k ≡ empty) ↔ NoPath q k
   chosen-empty = (none-chosen, no-path-none)
 
-  module _ (Ok : Float → Type 0) (ordered : Ordered (pathSystem q k) Ok (λ u v. T (le u v))) (values : (p : Path) → Admitted q p → count p ≤ k → Ok (value q p))
+  module _ (Ok : Float → Type 0) (ordered : Ordered (pathSystem q k) Ok (λ u v. T (le u v)))
+      (values : (p : Path) → Admitted q p → count p ≤ k → Ok (value q p))
       (sums : (p : Path) → Admitted q p → count p ≤ k → Ok (sum q p)) where
     all-ok : (r : Route State Move) → Runs (pathSystem q k) r → Ok (valueOf (pathSystem q k) r)
     all-ok r run = go (seen q k run)

@@ -1,6 +1,6 @@
 -- The optimality theorem, from the laws of IEEE 754: rounded addition and subtraction are monotone, so the best way into each cell
 -- is the start of a best path.
-use Prim.Native.Nat.{ℕ, _≤_, _<_}
+use Prim.Native.Nat.{ℕ, _≤_}
 use native.Mathlib.Omega.{arith}
 use mathlib.Core.Path.{_≡_}
 use lib.Dec.{T}
@@ -9,10 +9,10 @@ use Rattle.ieee.specs.Value.{Real}
 use Rattle.ieee.proofs.Order.{le-refl, le-trans, lt→le, not-lt→ge, le-antisym}
 use Rattle.ieee.proofs.Monotone.{add-mono, sub-mono}
 use Rattle.paths.specs.Problem.{Problem}
-use Rattle.paths.specs.Path.{Path, count, sum, Admitted, Best}
+use Rattle.paths.specs.Path.{Path, count, sum, Best}
 use Rattle.paths.specs.Cell.{held}
 use Rattle.paths.specs.CellRule.{chosenPath}
-use Rattle.paths.specs.PathSystem.{State, on, done, Move, byGap, byUnit, stop, pathSystem, allows, next}
+use Rattle.paths.specs.PathSystem.{State, on, Move, byGap, byUnit, stop, pathSystem, allows, next}
 use Rattle.paths.specs.Finite.{Finite}
 use Rattle.paths.proofs.BestRoutes.{Ordered}
 use Rattle.paths.proofs.Chosen.{chosen-best-of}

@@ -1,34 +1,32 @@
 -- Paths are the routes of their system: same end, count, value and admission, and a route that has come to an end has a path's sum.
-use Prim.Native.Nat.{ℕ, zero, suc, _≤_, _<_, zero-le}
+use Prim.Native.Nat.{ℕ, zero, _≤_, _<_, zero-le}
 use native.Mathlib.Omega.{arith}
-use mathlib.Core.Path.{_≡_, refl, sym, ap, ap₂, subst, _∙_}
-use lib.Dec.{T}
-use lib.Ieee.{Float, binary64, add, sub}
+use mathlib.Core.Path.{_≡_, refl, sym, ap, ap₂, subst}
 use Rattle.paths.specs.Problem.{Problem}
 use Rattle.paths.specs.Path.{Path, begin, gap, unit, end, count, value, sum, Admitted, begins, gaps, units}
-use Rattle.paths.specs.System.{System, Route, start, step, Runs, opening, going, stateOf, valueOf}
-use Rattle.paths.specs.PathSystem.{State, on, done, Move, byGap, byUnit, stop, pathSystem, route}
+use Rattle.paths.specs.System.{Route, start, step, Runs, opening, going, stateOf, valueOf}
+use Rattle.paths.specs.PathSystem.{State, on, done, Move, byGap, byUnit, stop, opens, allows, leads, next, pathSystem, route}
 
 module _ (q : Problem) (k : ℕ) where
   pub route-state : (p : Path) → stateOf (pathSystem q k) (route p) ≡ on (count p) (end p)
   unfolding route stateOf count end
   route-state (begin j) = refl
-  route-state (gap p) = ap (λ x. pathSystem q k .leads x byGap) (route-state p)
-  route-state (unit p j) = ap (λ x. pathSystem q k .leads x (byUnit j)) (route-state p)
+  route-state (gap p) = ap (λ x. leads x byGap) (route-state p)
+  route-state (unit p j) = ap (λ x. leads x (byUnit j)) (route-state p)
 
   pub route-value : (p : Path) → valueOf (pathSystem q k) (route p) ≡ value q p
   unfolding route valueOf value
   route-value (begin j) = refl
-  route-value (gap p) = ap₂ (λ x v. pathSystem q k .next x byGap v) (route-state p) (route-value p)
-  route-value (unit p j) = ap₂ (λ x v. pathSystem q k .next x (byUnit j) v) (route-state p) (route-value p)
+  route-value (gap p) = ap₂ (λ x v. next q x byGap v) (route-state p) (route-value p)
+  route-value (unit p j) = ap₂ (λ x v. next q x (byUnit j) v) (route-state p) (route-value p)
 
   pub ended-value : (p : Path) → valueOf (pathSystem q k) (step (route p) stop) ≡ sum q p
   unfolding valueOf sum
-  ended-value p = ap₂ (λ x v. pathSystem q k .next x stop v) (route-state p) (route-value p)
+  ended-value p = ap₂ (λ x v. next q x stop v) (route-state p) (route-value p)
 
   pub ended-state : (p : Path) → stateOf (pathSystem q k) (step (route p) stop) ≡ done (count p)
   unfolding stateOf
-  ended-state p = ap (λ x. pathSystem q k .leads x stop) (route-state p)
+  ended-state p = ap (λ x. leads x stop) (route-state p)
 
   -- where an admitted path stands
   pub end-inside : {p : Path} → Admitted q p → end p < q .size
@@ -37,11 +35,13 @@ module _ (q : Problem) (k : ℕ) where
   end-inside (gaps a l) = l
   end-inside (units a l b ok) = b
 
-  allow : (p : Path) (e : Move) → pathSystem q k .allows (on (count p) (end p)) e → pathSystem q k .allows (stateOf (pathSystem q k) (route p)) e
-  allow p e = subst (λ x. pathSystem q k .allows x e) (sym (route-state p))
+  allow :
+      (p : Path) (e : Move) → allows q k (on (count p) (end p)) e → allows q k (stateOf (pathSystem q k) (route p)) e
+  allow p e = subst (λ x. allows q k x e) (sym (route-state p))
 
-  allow-back : (p : Path) (e : Move) → pathSystem q k .allows (stateOf (pathSystem q k) (route p)) e → pathSystem q k .allows (on (count p) (end p)) e
-  allow-back p e = subst (λ x. pathSystem q k .allows x e) (route-state p)
+  allow-back :
+      (p : Path) (e : Move) → allows q k (stateOf (pathSystem q k) (route p)) e → allows q k (on (count p) (end p)) e
+  allow-back p e = subst (λ x. allows q k x e) (route-state p)
 
   pub admitted-runs : {p : Path} → Admitted q p → count p ≤ k → Runs (pathSystem q k) (route p)
   unfolding route count
@@ -57,16 +57,16 @@ module _ (q : Problem) (k : ℕ) where
     seen-path : (p : Path) → Admitted q p → count p ≤ k → Seen (route p)
     seen-end : (p : Path) → Admitted q p → count p ≤ k → Seen (step (route p) stop)
 
-  opened : (x : State) → pathSystem q k .opens x → Seen (start x)
+  opened : (x : State) → opens q x → Seen (start x)
   unfolding route count
   opened (on zero j) l = seen-path (begin j) (begins l) zero-le
 
-  moved : {r : Route State Move} (e : Move) → Seen r → pathSystem q k .allows (stateOf (pathSystem q k) r) e → Seen (step r e)
+  moved : {r : Route State Move} (e : Move) → Seen r → allows q k (stateOf (pathSystem q k) r) e → Seen (step r e)
   unfolding route count
   moved byGap (seen-path p a h) al = let l = allow-back p byGap al in seen-path (gap p) (gaps a (l .1)) h
   moved (byUnit j) (seen-path p a h) al = let l = allow-back p (byUnit j) al in seen-path (unit p j) (units a (l .1) (l .2) (l .3)) (l .0)
   moved stop (seen-path p a h) al = seen-end p a h
-  moved e (seen-end p a h) al = absurd (subst (λ x. pathSystem q k .allows x e) (ended-state p) al)
+  moved e (seen-end p a h) al = absurd (subst (λ x. allows q k x e) (ended-state p) al)
 
   pub seen : {r : Route State Move} → Runs (pathSystem q k) r → Seen r
   seen (opening {x = x} o) = opened x o

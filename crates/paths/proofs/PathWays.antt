@@ -1,13 +1,13 @@
 -- The path problem is a layered system: the ways into each of its states are exactly those that paths come by, each once.
 use Prim.Native.Nat.{ℕ, zero, suc, _≤_, _<_, zero-le}
 use native.Mathlib.Omega.{arith}
-use mathlib.Core.Path.{_≡_, refl, sym, ap, subst, _∙_}
+use mathlib.Core.Path.{_≡_, refl, sym, ap, subst}
 use mathlib.Core.Bool.{Bool, true, false, cond, not, _&&_}
 use lib.Dec.{T, leb, ltb, leb→le, le→leb, ltb→lt, lt→ltb, nltb→le}
 use Rattle.paths.specs.Problem.{Problem}
-use Rattle.paths.proofs.Cells.{by-test}
-use Rattle.paths.specs.System.{System, Way, Ways, none, _then_, fresh, after, In, last, earlier, Once, once-none, once-then, Layered}
-use Rattle.paths.specs.PathSystem.{State, on, done, Move, byGap, byUnit, stop, unitWays, stopWays, waysIn, waysOf, pathSystem}
+use Rattle.paths.proofs.Tests.{by-test, both, left-half, right-half}
+use Rattle.paths.specs.System.{Way, Ways, none, _then_, fresh, after, In, last, earlier, Once, once-none, once-then, Layered}
+use Rattle.paths.specs.PathSystem.{State, on, done, Move, byGap, byUnit, stop, opens, allows, leads, unitWays, stopWays, waysIn, waysOf, pathSystem}
 
 -- the ways into each state, as a rule
 pub data Arrives (q : Problem) (k : ℕ) : State → Way State Move → Type 0 where
@@ -42,7 +42,9 @@ module _ (q : Problem) (s j : ℕ) where
   unit-in : (m i : ℕ) → i < m → T (q .unitOk i j) → In (after (on s i) (byUnit j)) (unitWays q s j m)
   unfolding unitWays
   unit-in zero i l ok = absurd (omega arith)
-  unit-in (suc m) i l ok = by-test (ltb i m) (λ t. below (q .unitOk m j) (unit-in m i (ltb→lt i m t) ok)) (λ t. at (q .unitOk m j) (i-is t) (subst (λ z. T (q .unitOk z j)) (i-is t) ok))
+  unit-in (suc m) i l ok =
+      by-test (ltb i m) (λ t. below (q .unitOk m j) (unit-in m i (ltb→lt i m t) ok))
+      (λ t. at (q .unitOk m j) (i-is t) (subst (λ z. T (q .unitOk z j)) (i-is t) ok))
     where
       i-is : T (not (ltb i m)) → i ≡ m
       i-is t = omega (arith, nltb→le i m t)
@@ -52,7 +54,9 @@ module _ (q : Problem) (s j : ℕ) where
       below true i = earlier i
       below false i = i
 
-      at : (b : Bool) → i ≡ m → T b → In (after (on s i) (byUnit j)) (cond b (unitWays q s j m then after (on s m) (byUnit j)) (unitWays q s j m))
+      at :
+          (b : Bool) → i ≡ m → T b →
+          In (after (on s i) (byUnit j)) (cond b (unitWays q s j m then after (on s m) (byUnit j)) (unitWays q s j m))
       at true e t = last (ap (λ z. after (on s z) (byUnit j)) e)
       at false e t = absurd t
 
@@ -106,18 +110,6 @@ guarded-once : (b : Bool) (ws : Ways State Move) → Once ws → Once (cond b ws
 guarded-once true ws once = once
 guarded-once false ws once = once-none
 
-pub left : (a b : Bool) → T (a && b) → T a
-left true b t = tt
-left false b t = t
-
-pub right : (a b : Bool) → T (a && b) → T b
-right true b t = t
-right false b t = absurd t
-
-both : (a b : Bool) → T a → T b → T (a && b)
-both true b t u = u
-both false b t u = t
-
 module _ (q : Problem) (k : ℕ) where
   arrives-on : (s j : ℕ) {w : Way State Move} → s ≤ k → j < q .size → In w (waysIn q s j) → Arrives q k (on s j) w
   unfolding waysIn
@@ -137,7 +129,7 @@ module _ (q : Problem) (k : ℕ) where
   unfolding waysOf
   arrives (on s j) =
       guarded (leb s k && ltb j (q .size)) (waysIn q s j)
-      (λ t. arrives-on s j (leb→le s k (left (leb s k) (ltb j (q .size)) t)) (ltb→lt j (q .size) (right (leb s k) (ltb j (q .size)) t)))
+      (λ t. arrives-on s j (leb→le s k (left-half (leb s k) (ltb j (q .size)) t)) (ltb→lt j (q .size) (right-half (leb s k) (ltb j (q .size)) t)))
   arrives (done s) {w} = guarded (leb s k) (stopWays s (q .size)) (λ t i. go (leb→le s k t) (stop-ways s (q .size) i))
     where
       go : {w : Way State Move} → s ≤ k → StopBelow s (q .size) w → Arrives q k (done s) w
@@ -185,7 +177,9 @@ module _ (q : Problem) (k : ℕ) where
 
       go : (s j : ℕ) → Once (waysIn q s j)
       go zero zero = only-start
-      go zero (suc j) = once-then {u = after (on zero j) byGap} only-start (λ i. let f = apart (after (on zero j) byGap) i in let z : _≡_ {A = ℕ} 0 1 = cc in omega arith)
+      go zero (suc j) =
+          once-then {u = after (on zero j) byGap} only-start
+          (λ i. let f = apart (after (on zero j) byGap) i in let z : _≡_ {A = ℕ} 0 1 = cc in omega arith)
       go (suc s) zero = once-none
       go (suc s) (suc j) = once-then (unit-once q s (suc j) (suc j)) (λ i. not-unit (unit-ways q s (suc j) (suc j) i) refl)
   ways-once (done s) = guarded-once (leb s k) _ (stop-once s (q .size))
@@ -212,23 +206,23 @@ module _ (q : Problem) (k : ℕ) where
       falls (by-unit a l b ok) = l
       falls (by-stop a l) = l
 
-      opened : {x : State} → Arrives q k x fresh → pathSystem q k .opens x
+      opened : {x : State} → Arrives q k x fresh → opens q x
       opened (by-start l) = l
 
-      opens-in : (x : State) → pathSystem q k .opens x → In fresh (waysOf q k x)
+      opens-in : (x : State) → opens q x → In fresh (waysOf q k x)
       opens-in (on zero j) o = arrives-in (by-start o)
 
-      allowed : {x y : State} {e : Move} → Arrives q k x (after y e) → pathSystem q k .allows y e
+      allowed : {x y : State} {e : Move} → Arrives q k x (after y e) → allows q k y e
       allowed (by-gap a l) = (a, l)
       allowed (by-unit a l b ok) = (a, l, b, ok)
       allowed (by-stop a l) = (a, l)
 
-      leads-to : {x y : State} {e : Move} → Arrives q k x (after y e) → pathSystem q k .leads y e ≡ x
+      leads-to : {x y : State} {e : Move} → Arrives q k x (after y e) → leads y e ≡ x
       leads-to (by-gap a l) = refl
       leads-to (by-unit a l b ok) = refl
       leads-to (by-stop a l) = refl
 
-      allows-in : (y : State) (e : Move) → pathSystem q k .allows y e → In (after y e) (waysOf q k (pathSystem q k .leads y e))
+      allows-in : (y : State) (e : Move) → allows q k y e → In (after y e) (waysOf q k (leads y e))
       allows-in (on s i) byGap h = arrives-in (by-gap (h .0) (h .1))
       allows-in (on s i) (byUnit j) h = arrives-in (by-unit (h .0) (h .1) (h .2) (h .3))
       allows-in (on s i) stop h = arrives-in (by-stop (h .0) (h .1))

@@ -3,18 +3,20 @@ use Prim.Native.Nat.{ℕ, zero, suc, _≤_, _<_}
 use native.Mathlib.Omega.{arith}
 use mathlib.Core.Path.{_≡_, refl, sym, ap, ap₂, fun-ext, _∙_}
 use mathlib.Core.Bool.{Bool, true, false, cond, _&&_}
-use lib.Dec.{T, leb, ltb, leb→le, ltb→lt, le→leb, lt→ltb}
+use lib.Dec.{T, leb, ltb, leb→le, ltb→lt}
 use lib.Ieee.{lt}
 use Rattle.paths.specs.Problem.{Problem}
-use Rattle.paths.specs.Path.{Path, begin, gap, unit, value, sum}
-use Rattle.paths.specs.Cell.{Cell, empty, held, keep, best, carry, only}
-use Rattle.paths.specs.CellRule.{Keeping, sweep, arrival, rows, paths, chosenPath}
-use Rattle.paths.specs.System.{System, Route, start, step, Ways, none, _then_, after, valueOf}
-use Rattle.paths.specs.Table.{gather, bring, Table, bestRoutes}
+use Rattle.paths.specs.Path.{Path, begin, gap, unit, sum}
+use Rattle.paths.specs.Cell.{Cell, held, keep, best, carry, only}
+use Rattle.paths.specs.CellRule.{sweep, arrival, rows, paths, chosenPath}
+use Rattle.paths.specs.System.{Route, start, step, Ways, none, _then_, after, valueOf}
+use Rattle.paths.specs.Table.{gather, bring, Table, tableOf, bestRoutes}
 use Rattle.paths.specs.PathSystem.{State, on, done, Move, byGap, byUnit, stop, unitWays, stopWays, waysIn, waysOf, pathSystem, route}
-use Rattle.paths.proofs.Cells.{by-test, keep-empty, carry-carry, only-true, carry-keep}
+use Rattle.paths.proofs.Cells.{keep-empty, carry-carry, only-true, carry-keep}
+use Rattle.paths.proofs.Tables.{only-table, table-is}
 use Rattle.paths.proofs.PathRoutes.{route-value, ended-value}
-use Rattle.paths.proofs.PathWays.{on-guard, left, right}
+use Rattle.paths.proofs.PathWays.{layered, on-guard}
+use Rattle.paths.proofs.Tests.{left-half, right-half}
 
 -- The cells within the problem and the count, as routes.
 unfoldable pub cells : Problem → ℕ → State → Cell (Route State Move)
@@ -76,7 +78,8 @@ module _ (q : Problem) (k : ℕ) where
       ap (keep byValue (held (start (on zero (suc j))))) (step-brings zero j a (omega arith) byGap gap (λ p. refl))
   row-brings (suc s) zero a b = refl
   row-brings (suc s) (suc j) a b =
-      route-keep (best (paths q .less) (suc j) (arrival q (paths q) s (rows q (paths q) s) (suc j))) (carry gap (rows q (paths q) (suc s) j)) ∙
+      route-keep (best (paths q .less) (suc j) (arrival q (paths q) s (rows q (paths q) s) (suc j)))
+      (carry gap (rows q (paths q) (suc s) j)) ∙
       ap₂ (keep byValue) (units-bring (on (suc s) (suc j)) s (suc j) (suc j) a (omega arith) b)
       (step-brings (suc s) j a (omega arith) byGap gap (λ p. refl))
 
@@ -97,7 +100,7 @@ module _ (q : Problem) (k : ℕ) where
   unfolding Table cells waysOf chosenPath brought-all bestRoutes gather carry only
   rows-table (on s j) =
       go (leb s k && ltb j (q .size))
-      (λ t. row-brings s j (leb→le s k (left (leb s k) (ltb j (q .size)) t)) (ltb→lt j (q .size) (right (leb s k) (ltb j (q .size)) t)))
+      (λ t. row-brings s j (leb→le s k (left-half (leb s k) (ltb j (q .size)) t)) (ltb→lt j (q .size) (right-half (leb s k) (ltb j (q .size)) t)))
     where
       go :
           (t : Bool) → (T t → carry route (rows q (paths q) s j) ≡ brought-all (on s j) (waysIn q s j)) →
@@ -111,3 +114,10 @@ module _ (q : Problem) (k : ℕ) where
           carry (λ p. step (route p) stop) (only t (chosenPath q s)) ≡ brought-all (done s) (cond t (stopWays s (q .size)) none)
       go true is = is tt
       go false is = refl
+
+  -- and so are the table that is computed
+  pub rows-are-table : (x : State) → cells q k x ≡ tableOf (pathSystem q k) (layered q k) (bestRoutes (pathSystem q k)) x
+  rows-are-table =
+      only-table (pathSystem q k) (layered q k) (bestRoutes (pathSystem q k)) (cells q k) rows-table
+      (tableOf (pathSystem q k) (layered q k) (bestRoutes (pathSystem q k)))
+      (table-is (pathSystem q k) (layered q k) (bestRoutes (pathSystem q k)))

@@ -1,12 +1,25 @@
 -- What holds of any table of a layered system: two ways to prove something of its cells, that tables exist, that there is one only,
 -- and that a table's image under a map that respects its kind is a table.
-use Prim.Native.Nat.{ℕ, zero, suc, _<_, _≤_}
+use Prim.Native.Nat.{ℕ, zero, suc, _<_}
 use native.Mathlib.Omega.{arith}
 use mathlib.Core.Path.{_≡_, refl, sym, ap, ap₂, subst, _∙_}
-use Rattle.paths.specs.System.{System, Route, start, step, Way, fresh, after, Ways, none, _then_, In, last, earlier, Runs, opening, going, stateOf, Layered}
+use Rattle.paths.specs.System.{System, Route, start, step, Way, fresh, after, Ways, none, _then_, In, last, earlier, Runs, opening, going, Ends, stateOf, Layered}
 use Rattle.paths.specs.Table.{Kind, bring, gather, Table, tableTo, tableOf}
 
--- the ways of a kind of table to hold R at every state
+-- how a route comes to end at a state
+module _ {X E W : Type 0} (S : System X E W) where
+  pub start-ends : {x : X} → S .opens x → Ends S x (start x)
+  unfolding stateOf
+  start-ends o = record { runs = opening o; ends = refl }
+
+  pub step-ends : {y : X} {r : Route X E} (e : E) → S .allows y e → Ends S y r → Ends S (S .leads y e) (step r e)
+  unfolding stateOf
+  step-ends e allow at = record {
+    runs = going (at .runs) (subst (λ z. S .allows z e) (sym (at .ends)) allow);
+    ends = ap (λ z. S .leads z e) (at .ends);
+  }
+
+-- R is kept up by what a kind of table does, along the steps at least from the cells of t
 pub record Invariant {X E W C : Type 0} (S : System X E W) (kind : Kind X E C) (t : X → C) (R : X → C → Type 0) : Type 0 where
   pub nothing : (x : X) → R x (kind .nothing)
   pub join : (x : X) (c d : C) → R x c → R x d → R x (kind .join c d)
@@ -14,7 +27,8 @@ pub record Invariant {X E W C : Type 0} (S : System X E W) (kind : Kind X E C) (
   pub along : (y : X) (e : E) → S .allows y e → R y (t y) → R (S .leads y e) (kind .along y e (t y))
 
 -- P of a route passes from what its last way brings to the cell, where R holds of cells
-pub record Reaching {X E W C : Type 0} (S : System X E W) (kind : Kind X E C) (t : X → C) (R : X → C → Type 0) (P : Route X E → C → Type 0) : Type 0 where
+pub record Reaching {X E W C : Type 0}
+    (S : System X E W) (kind : Kind X E C) (t : X → C) (R : X → C → Type 0) (P : Route X E → C → Type 0) : Type 0 where
   pub earlier : (r : Route X E) → Runs S r → (x : X) (c d : C) → R x c → R x d → P r c → P r (kind .join c d)
   pub later : (r : Route X E) → Runs S r → (x : X) (c d : C) → R x c → R x d → P r d → P r (kind .join c d)
   pub begins : (x : X) → S .opens x → P (start x) (kind .begins x)

@@ -6,7 +6,7 @@ use mathlib.Core.Bool.{Bool}
 use lib.Ieee.{lt}
 use Rattle.paths.specs.Problem.{Problem}
 use Rattle.paths.specs.Path.{Path, begin, gap, unit, value, sum}
-use Rattle.paths.specs.Cell.{Cell, empty, held, keep, best, carry, only}
+use Rattle.paths.specs.Cell.{Cell, held, keep, best, carry, only}
 
 -- What a search keeps of the path in a cell: how two compare, what a start at boundary j gives, and what is made of it by the gap
 -- from boundary i and by unit s (counted from 0) from boundary i to boundary j.

@@ -4,7 +4,7 @@ use mathlib.Core.Path.{_≡_}
 use mathlib.Core.List.{List, [], _∷_, _++_}
 use lib.Ieee.{Float, binary64, add, sub, lt, ofBits}
 use Rattle.paths.specs.Problem.{Problem}
-use Rattle.paths.specs.Path.{Path, begin, gap, unit, end}
+use Rattle.paths.specs.Path.{Path, begin, gap, unit, end, value, sum}
 use Rattle.paths.specs.Cell.{Cell, empty, held, best, carry}
 use Rattle.paths.specs.CellRule.{Keeping}
 
@@ -12,6 +12,15 @@ use Rattle.paths.specs.CellRule.{Keeping}
 pub record Marked : Type 0 where
   pub value : Float
   pub mark : ℕ
+
+unfoldable pub markOf : Path → ℕ
+unfolding end
+markOf (begin j) = 1
+markOf (gap p) = 2
+markOf (unit p j) = 3 + end p
+
+abbrev pub marked : Problem → Path → Marked
+marked q p = record { value = value q p; mark = markOf p }
 
 -- The two numbers of a cell in the work areas: both are 0 where nothing reached it.
 unfoldable pub valueAt : Cell Marked → Float
@@ -35,6 +44,9 @@ marks q = record {
 pub record End : Type 0 where
   pub sum : Float
   pub at : ℕ
+
+abbrev pub ended : Problem → Path → End
+ended q p = record { sum = sum q p; at = end p }
 
 -- The end chosen over a row of values and marks.
 unfoldable pub chosenEnd : Problem → (ℕ → Cell Marked) → Cell End

@@ -1,6 +1,6 @@
 -- The path problem as a layered system: paths of up to k units, whose end is one more step.
 use Prim.Native.Nat.{ℕ, zero, suc, _≤_, _<_}
-use mathlib.Core.Bool.{Bool, true, false, cond, _&&_}
+use mathlib.Core.Bool.{cond, _&&_}
 use lib.Dec.{T, leb, ltb}
 use lib.Ieee.{Float, binary64, add, sub, lt, ofBits}
 use Rattle.paths.specs.Problem.{Problem}

@@ -62,6 +62,11 @@ pub data Runs {X E W : Type 0} (S : System X E W) : Route X E → Type 0 where
   opening : {x : X} → S .opens x → Runs S (start x)
   going : {r : Route X E} {e : E} → Runs S r → S .allows (stateOf S r) e → Runs S (step r e)
 
+-- a route of the system that ends at x
+pub record Ends {X E W : Type 0} (S : System X E W) (x : X) (r : Route X E) : Type 0 where
+  pub runs : Runs S r
+  pub ends : stateOf S r ≡ x
+
 -- The ways into each state are exactly the ways that routes come by, each once, and a rank falls along them.
 pub record Layered {X E W : Type 0} (S : System X E W) : Type 0 where
   pub rank : X → ℕ

@@ -66,6 +66,11 @@ bestNotes S = record {
 unfoldable pub allRoutes : {X E : Type 0} → Kind X E (List (Route X E))
 allRoutes = record { nothing = []; join = _++_; begins = λ x. start x ∷ []; along = λ y e. map (λ r. step r e) }
 
+-- a place in a list, counted from 0
+pub data At {A : Type 0} (a : A) : List A → ℕ → Type 0 where
+  at-first : {b : A} {rest : List A} → a ≡ b → At a (b ∷ rest) zero
+  at-next : {b : A} {rest : List A} {n : ℕ} → At a rest n → At a (b ∷ rest) (suc n)
+
 -- How many routes there are.
 unfoldable pub routeCount : {X E : Type 0} → Kind X E ℕ
 routeCount = record { nothing = 0; join = _+_; begins = λ x. 1; along = λ y e n. n }
