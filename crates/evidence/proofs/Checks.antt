@@ -2,10 +2,11 @@
 use Prim.Native.Nat.{ℕ, suc, _+_, _≤_, _<_}
 use mathlib.Core.Bool.{Bool, true, false, _||_, cond, true≢false}
 use mathlib.Core.Path.{_≡_, refl, sym, ap, _∙_}
-use mathlib.Core.List.{List, [], _∷_}
+use mathlib.Core.List.{List, [], _∷_, List·Memᴰ, List·Memᴰ·head, List·Memᴰ·tail}
+use native.Mathlib.Omega.{arith}
 use lib.Dec.{ltb}
 use lib.ListN.{length, getD, drop}
-use borrow.Author.Tests.{lt-ltb, le-ltb}
+use borrow.Author.Tests.{lt-ltb, le-ltb, ltb-false}
 use Rattle.evidence.specs.Outcome.{anyAbove}
 use Rattle.evidence.proofs.Walk.{here, none-left}
 
@@ -37,3 +38,11 @@ or-l false b e = refl
 pub or-r : (a b : Bool) → a || b ≡ false → b ≡ false
 or-r true b e = absurd (true≢false e)
 or-r false b e = e
+
+-- no number above the limit: none of the members is
+pub within : {limit : ℕ} {xs : List ℕ} {x : ℕ} → anyAbove limit xs ≡ false → List·Memᴰ x xs → x ≤ limit
+unfolding anyAbove
+within {limit} e (List·Memᴰ·head {x = y} {xs = ys} same) =
+    let low = ltb-false limit y (or-l (ltb limit y) (anyAbove limit ys) e) in
+    omega arith
+within {limit} e (List·Memᴰ·tail {x = y} {xs = ys} m) = within (or-r (ltb limit y) (anyAbove limit ys) e) m

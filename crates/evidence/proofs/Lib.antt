@@ -2,6 +2,8 @@
 mod Walk
 mod Tail
 mod Nearest
+mod Words
 pub mod Neighbours
+pub mod Ascending
 pub mod Cuts
 pub mod Checks

@@ -1,6 +1,6 @@
 -- Unit spans, `tbu_spans` (document 01, "Spans, marks and order"). The two lists may stand in any order.
-use Prim.Native.Nat.{ℕ, _+_, _-_, _*_, _/_, min, max}
-use mathlib.Core.Bool.{_||_, cond}
+use Prim.Native.Nat.{ℕ, _+_, _-_, _*_, _/_, _≤_, min, max}
+use mathlib.Core.Bool.{false, _||_, cond}
 use mathlib.Core.List.{List, [], _∷_, _++_, map}
 use mathlib.Core.Path.{_≡_}
 use lib.Dec.{ltb}
@@ -72,12 +72,21 @@ tbuSpansOf nuclei bounds lo hi room =
     ∷ [])
     (length (ascending nuclei))
 
--- The output: words of an accepted call, with the cells beyond untouched; on a refusal as it was.
+-- words from the output's first cell on, and "cells beyond are untouched"
+abbrev pub overwritten : List ℕ → List ℕ → List ℕ
+overwritten words out = words ++ drop (length words) out
+
+-- the words of an accepted call; on a refusal the output as it was
 abbrev pub written : Outcome ℕ → List ℕ → List ℕ → List ℕ
-written (accepted n) words out = words ++ drop (length words) out
+written (accepted n) words out = overwritten words out
 written (refused n) words out = out
 
 -- What `tbu_spans` promises of its answer and of the output.
 pub record Answers (nuclei bounds : List ℕ) (lo hi : ℕ) (before : List ℕ) (answer : SpansAnswer) (after : List ℕ) : Type 0 where
   pub answered : outcome answer ≡ tbuSpansOf nuclei bounds lo hi (length before)
   pub output : after ≡ written (outcome answer) (wordsOf (spansOf nuclei bounds lo hi)) before
+
+-- What the checks leave for the writing of spans: frames within their limit, and room for a span of each.
+pub record Writable (nuclei out : List ℕ) : Type 0 where
+  pub within : anyAbove lastFrame nuclei ≡ false
+  pub room : 2 * length (ascending nuclei) ≤ length out

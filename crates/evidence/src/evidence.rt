@@ -4,11 +4,8 @@ use crate::frames;
 use crate::frames::Nearest;
 use crate::masks;
 ghost use mathlib.Core.Path.{_≡_};
-ghost use Prim.Native.Nat.{_+_, _*_, _-_, _<_, _≤_, _^_};
-ghost use mathlib.Core.List.{_++_};
-ghost use lib.ListN.{length, drop};
-ghost use Rattle.evidence.specs.Frames.{ascending};
-ghost use Rattle.evidence.specs.Spans.{uncutStart, uncutEnd, cut, startBeside, endBeside, spanOf, spansOf, wordsOf, Answers};
+ghost use Prim.Native.Nat.{_+_, _-_, _<_, _≤_, _^_};
+ghost use Rattle.evidence.specs.Spans.{uncutStart, uncutEnd, cut, startBeside, endBeside, spanOf, spansOf, wordsOf, overwritten, Writable, Answers};
 ghost use Rattle.evidence.specs.Frames.{highestBelow, lowestFrom};
 ghost use Rattle.evidence.specs.CreakyTail.{outcome, creakyTailOf, tailAfter, tailFrom, lastPitched, runFrom, stopOf, inTail};
 
@@ -194,4 +191,50 @@ pub fn span_of(frames: &[u32], bounds: &[u32], lo_edge: u32, hi_edge: u32, frame
         start: span_start(frames, bounds, lo_edge, hi_edge, frame),
         end: span_end(frames, bounds, lo_edge, hi_edge, frame),
     }
+}
+
+fn write_spans(nuclei: &[u32], bounds: &[u32], lo_edge: u32, hi_edge: u32, out: &mut [u32])
+    requires { ⌜ Writable (now nuclei) (now out) ⌝ }
+    ensures { λ _. ⌜ now (out .exit) ≡ overwritten (wordsOf (spansOf (now (nuclei .entry)) (now (bounds .entry)) «lo_edge» «hi_edge»)) (now (out .entry)) ⌝ }
+{
+    let mut count: usize = 0;
+    let mut from = 0;
+    loop {
+        let Nearest::At(f) = frames::lowest_from(nuclei, from) else {
+            return;
+        };
+        let span = span_of(nuclei, bounds, lo_edge, hi_edge, f);
+        let at = 2 * count;
+        out[at] = span.start;
+        out[at + 1] = span.end;
+        count += 1;
+        from = f + 1;
+    }
+}
+
+pub fn tbu_spans(
+    nuclei: &[u32],
+    bounds: &[u32],
+    lo_edge: u32,
+    hi_edge: u32,
+    out: &mut [u32],
+) -> SpansAnswer
+    ensures { λ r. ⌜ Answers (now (nuclei .entry)) (now (bounds .entry)) «lo_edge» «hi_edge» (now (out .entry)) r (now (out .exit)) ⌝ }
+{
+    if (nuclei.len() > 64) | (bounds.len() > 64) {
+        return SpansAnswer::Size;
+    }
+    if frames::any_above(nuclei, 4095)
+        | frames::any_above(bounds, 4095)
+        | (lo_edge > 4095)
+        | (hi_edge > 4095)
+    {
+        return SpansAnswer::Track;
+    }
+    let count = frames::distinct(nuclei);
+    if out.len() < 2 * count {
+        return SpansAnswer::Desk;
+    }
+    write_spans(nuclei, bounds, lo_edge, hi_edge, out);
+    SpansAnswer::Spans(count)
 }
