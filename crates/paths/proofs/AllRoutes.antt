@@ -8,7 +8,7 @@ use native.Mathlib.Nat.{zero-add, suc-add}
 use lib.ListN.{length, length-append}
 use Rattle.paths.specs.System.{System, Route, start, step, Way, fresh, after, Ways, none, _then_, In, last, earlier, Once, once-then, Ends, lastWay, Layered}
 use Rattle.paths.specs.Table.{gather, bring, Table, allRoutes, routeCount, At, at-first, at-next}
-use Rattle.paths.proofs.Tables.{start-ends, step-ends, Invariant, Reaching, everywhere, reached, image}
+use Rattle.paths.proofs.Tables.{start-ends, step-ends, Invariant, Reaching, everywhere, reached, only-table, image}
 
 -- a place in joined lists, by the list that it is in
 data Split {A : Type 0} (a : A) (s t : List A) (n : ℕ) : Type 0 where
@@ -175,8 +175,13 @@ module _ {X E W : Type 0} (S : System X E W) (layered : Layered S) (t : X → Li
           gathered-once x (S .ways x) (layered .each-once x) (brings x (λ y l. go b y (omega arith))) r n m
           (subst (λ s. At r s n) (is x) i) (subst (λ s. At r s m) (is x) k)
 
-  -- the number of routes is the length of the list
-  pub counts-table : Table S routeCount (λ x. length (t x))
+  -- the lengths of the lists are a table of numbers, and so the only one
+  counts-table : Table S routeCount (λ x. length (t x))
   unfolding allRoutes routeCount
-  counts-table = image S allRoutes routeCount t length
+  counts-table =
+      image S allRoutes routeCount t length
       record { nothing = refl; join = length-append; begins = λ x. refl; along = λ y e. length-map (λ r. step r e) (t y) } is
+
+  -- the number of routes is the length of their list
+  pub counts-length : (counts : X → ℕ) → Table S routeCount counts → (x : X) → counts x ≡ length (t x)
+  counts-length counts are x = sym (only-table S layered routeCount (λ x. length (t x)) counts-table counts are x)

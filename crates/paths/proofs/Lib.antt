@@ -12,6 +12,7 @@ pub mod Chosen
 pub mod Optimal
 pub mod Keeping
 pub mod Marks
+pub mod PathUnits
 pub mod Examples
 pub mod Frames
 pub mod Anchors

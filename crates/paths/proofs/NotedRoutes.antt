@@ -46,6 +46,10 @@ module _ {X E W : Type 0} (S : System X E W) (layered : Layered S) (t : X → Ce
         along = λ y e. stepped y e (t y) (λ r h. best-ends S layered t is y r h .ends);
       }
 
+  -- so any table of notes has the value and the last way of each best route
+  pub notes-same : (notes : X → Cell (Noted X E W)) → Table S (bestNotes S) notes → (x : X) → notes x ≡ carry (noted S) (t x)
+  notes-same notes are x = sym (only-table S layered (bestNotes S) (λ x. carry (noted S) (t x)) notes-table notes are x)
+
   prefixed : (x : X) → Every (Prefixed S t) (t x)
   unfolding bestRoutes carry
   prefixed = everywhere S layered (bestRoutes S) t is (λ x. Every (Prefixed S t)) invariant
@@ -63,7 +67,7 @@ module _ {X E W : Type 0} (S : System X E W) (layered : Layered S) (t : X → Ce
       (notes : X → Cell (Noted X E W)) → Table S (bestNotes S) notes → (x : X) (r : Route X E) → t x ≡ held r → Follows notes x r
   unfolding carry stateOf lastWay
   notes-follow notes are x r e =
-      subst (λ n. Follows n x r) (fun-ext (only-table S layered (bestNotes S) (λ x. carry (noted S) (t x)) notes-table notes are))
+      subst (λ n. Follows n x r) (sym (fun-ext (notes-same notes are)))
       (subst (λ z. Follows (λ x. carry (noted S) (t x)) z r) ends (go r (every-at (prefixed x) e) (ap t ends ∙ e)))
     where
       ends : stateOf S r ≡ x

@@ -18,15 +18,18 @@ pub data Move : Type 0 where
   byUnit : ℕ → Move
   stop : Move
 
+-- A path begins with no unit, at any boundary.
 abbrev pub opens : Problem → State → Type 0
 opens q (on zero j) = j < q .size
 opens q (on (suc s) j) = ⊥
 opens q (done s) = ⊥
 
+-- No path begins at its end, so that value is never used.
 abbrev pub first : Problem → State → Float
 first q (on s j) = q .start j
 first q (done s) = ofBits binary64 0
 
+-- The steps of `Admitted`, for paths of up to k units; nothing follows the end.
 abbrev pub allows : Problem → ℕ → State → Move → Type 0
 allows q k (on s i) byGap = (s ≤ k) × (suc i < q .size)
 allows q k (on s i) (byUnit j) = (s < k) × (i < j) × (j < q .size) × T (q .unitOk i j)
@@ -39,6 +42,7 @@ leads (on s i) (byUnit j) = on (suc s) j
 leads (on s i) stop = done s
 leads (done s) move = done s
 
+-- what `value` and `sum` do at each step
 abbrev pub next : Problem → State → Move → Float → Float
 next q (on s i) byGap v = sub binary64 v (q .gapCost i)
 next q (on s i) (byUnit j) v = add binary64 v (q .unitValue s i j)
@@ -51,6 +55,7 @@ unitWays q s j zero = none
 unitWays q s j (suc m) =
     cond (q .unitOk m j) (unitWays q s j m then after (on s m) (byUnit j)) (unitWays q s j m)
 
+-- The ends at the boundaries below m, lowest first.
 unfoldable pub stopWays : ℕ → ℕ → Ways State Move
 stopWays s zero = none
 stopWays s (suc m) = stopWays s m then after (on s m) stop
@@ -63,6 +68,7 @@ waysIn q zero (suc j) = none then fresh then after (on zero j) byGap
 waysIn q (suc s) zero = none
 waysIn q (suc s) (suc j) = unitWays q s (suc j) (suc j) then after (on (suc s) j) byGap
 
+-- only boundaries of the problem, and counts of up to k units
 unfoldable pub waysOf : Problem → ℕ → State → Ways State Move
 unfolding waysIn stopWays
 waysOf q k (on s j) = cond (leb s k && ltb j (q .size)) (waysIn q s j) none

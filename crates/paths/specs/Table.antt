@@ -14,21 +14,23 @@ pub record Kind (X E C : Type 0) : Type 0 where
   pub begins : X → C
   pub along : X → E → C → C
 
+-- what one way brings into state x, where t has the cells
 unfoldable pub bring : {X E C : Type 0} → Kind X E C → (X → C) → X → Way X E → C
 bring kind t x fresh = kind .begins x
 bring kind t x (after y e) = kind .along y e (t y)
 
+-- what ways bring, joined in their order
 unfoldable pub gather : {X E C : Type 0} → Kind X E C → (X → C) → X → Ways X E → C
 unfolding bring
 gather kind t x none = kind .nothing
 gather kind t x (ws then w) = kind .join (gather kind t x ws) (bring kind t x w)
 
--- the cells are a table
+-- t is a table: each cell joins what the ways into its state bring.
 unfoldable pub Table : {X E W C : Type 0} → System X E W → Kind X E C → (X → C) → Type 0
 unfolding gather
 Table {X = X} S kind t = (x : X) → t x ≡ gather kind t x (S .ways x)
 
--- the table of a layered system, computed
+-- The table of a layered system, computed: the rank bounds how far back the ways go.
 unfoldable pub tableTo : {X E W C : Type 0} → System X E W → Kind X E C → ℕ → X → C
 unfolding gather
 tableTo S kind zero x = kind .nothing
