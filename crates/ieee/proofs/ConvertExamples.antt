@@ -3,10 +3,19 @@
 use mathlib.Core.Path.{_≡_, refl}
 use mathlib.Core.Bool.{true, false}
 use Prim.Native.Nat.{ℕ}
-use lib.IntN.{negsuc}
-use lib.Ieee.{Float, fin, binary32, binary64, ofBits, toBits, round, lt, eq, isNan}
-use Rattle.ieee.specs.Convert.{narrowed, clamped, clampedLog}
+use lib.IntN.{pos, negsuc}
+use lib.Ieee.{Float, fin, binary32, binary64, ofInt, ofBits, toBits, round, lt, eq, isNan}
+use Rattle.ieee.specs.Convert.{narrowed, lowest, highest, clamped, clampedLog}
 use Rattle.ieee.specs.TotalOrder.{totalBefore, totalKey}
+
+-- the bounds of the clamp
+upper-bound : highest ≡ ofInt binary64 (pos 1000000)
+unfolding ofInt
+upper-bound = refl
+
+lower-bound : lowest ≡ ofInt binary64 (negsuc 999999)
+unfolding ofInt
+lower-bound = refl
 
 -- 1,000,000.5 = 2,000,001 / 2
 just-over-a-million : Float

@@ -9,11 +9,12 @@ ghost use lib.Ieee.{binary32, binary64, isNan, ofBits, toBits};
 ghost use lib.Ieee.Nearest.{closest};
 ghost use Rattle.ieee.specs.Convert.{narrowed, clamped, Narrowed, ClampedLog};
 
-// The weight of the sign and of the leading digit in an f64 and in an f32, and an f32's infinity.
+// The weight of the sign's bit.
 const SIGN_64: u64 = 0x8000_0000_0000_0000;
 
 const SIGN_32: u64 = 0x8000_0000;
 
+// The weight of the leading digit, which a pattern does not write, and of the exponent's field.
 const LEADING_64: u64 = 0x0010_0000_0000_0000;
 
 const LEADING_32: u64 = 0x0080_0000;
@@ -23,11 +24,13 @@ const INFINITY_32: u64 = 0x7f80_0000;
 // How many digits an f64 has more than an f32.
 const DROPPED: u64 = 29;
 
-// The exponent's field of an f64 from which it narrows to a subnormal f32, to a normal one, to an infinity.
+// An f64 with a lower exponent's field is under half of the smallest f32.
 const SUBNORMAL: u64 = 873;
 
+// The field in the smallest normal f32, as an f64.
 const NORMAL: u64 = 897;
 
+// The field from which an f64 is out of f32's range.
 const INFINITE: u64 = 1151;
 
 const LOG_CLAMP: f64 = 1_000_000.0;

@@ -2,10 +2,11 @@
 use mathlib.Core.Path.{_≡_, sym, ap, _∙_, subst}
 use mathlib.Core.Bool.{not}
 use lib.Dec.{T}
-use lib.Ieee.{Float, isNan}
+use lib.Ieee.{Float, binary32, isNan}
 use lib.Ieee.Scale.{finite}
 use Rattle.ieee.specs.Convert.{narrowed, clampedLog}
-use Rattle.ieee.proofs.NarrowClamp.{clamped-number, clampedLog-finite}
+use Rattle.ieee.specs.TotalOrder.{Comparable}
+use Rattle.ieee.proofs.NarrowClamp.{clamped-number, clampedLog-comparable, clampedLog-finite}
 use Rattle.ieee.proofs.convert.clamp_log.Statement.{statement}
 use Rattle.ieee.proofs.convert.clamp_log.Tie as tie
 
@@ -20,7 +21,11 @@ unfolding clampedLog
 returns c =
     let v = c .before .before .args .v in
     let value : c .narrow .result ≡ clampedLog v = c .narrow .ensures .value ∙ ap narrowed (c .before .clamp .ensures) in
-    record { value = value; comparable = c .narrow .ensures .comparable; finite = subst (λ (x : Float). T (finite x)) (sym value) (clampedLog-finite v) }
+    record {
+      value = value;
+      comparable = subst (Comparable binary32) (sym value) (clampedLog-comparable v);
+      finite = subst (λ (x : Float). T (finite x)) (sym value) (clampedLog-finite v);
+    }
 
 pub clamp-log-spec : {M : Type 1} → statement M
 clamp-log-spec = tie.close (tie.spec clamp-requires narrow-requires returns)
