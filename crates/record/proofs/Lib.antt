@@ -1,0 +1,4 @@
+-- The laws of this layer for those above it.
+pub mod Tests
+pub mod Sizes
+pub mod SamplePhrase

@@ -1,0 +1,33 @@
+-- What the conditions 3 and 4 leave when they do not hold: bounds on the counts, and sections that stand before the trailer.
+use Prim.Native.Nat.{ℕ, _*_, _≤_, _<_}
+use mathlib.Core.Path.{_≡_}
+use Rattle.record.specs.Layout.{listBytes, scoreBytes, costsBytes}
+use Rattle.record.specs.declared.limits.Limits.{Limits}
+use Rattle.record.specs.declared.trailer.Mark.{Mark}
+use Rattle.record.specs.declared.trailer.Trailer.{Trailer}
+
+pub record Sized (l : Limits) (t : Trailer) : Type 0 where
+  pub frames : t .mask .count ≤ l .frames
+  pub nuclei : t .nuclei .count ≤ l .nuclei
+  pub boundaries : t .boundaries .count ≤ l .boundaries
+  pub anchors : t .anchors .count ≤ l .anchors
+  pub added : t .added .count ≤ l .boundaries
+  pub columns : t .scores .count ≤ l .columns
+  pub candidates : t .candidates .count ≤ l .candidates
+  pub someColumn : 0 < t .scores .count
+  pub nothingAdded : t .anchors .count ≡ 0 → t .added .count ≡ 0
+
+-- a section of so many bytes lies between the record's start and the trailer's
+pub record Reaches (end bytes back : ℕ) : Type 0 where
+  pub long : bytes ≤ back
+  pub inside : back ≤ end
+
+pub record Reaching (l : Limits) (end : ℕ) (t : Trailer) : Type 0 where
+  pub mask : Reaches end (t .mask .count) (t .mask .back)
+  pub nuclei : Reaches end (listBytes (t .nuclei .count)) (t .nuclei .back)
+  pub boundaries : Reaches end (listBytes (t .boundaries .count)) (t .boundaries .back)
+  pub anchors : Reaches end (listBytes (t .anchors .count)) (t .anchors .back)
+  pub added : Reaches end (listBytes (t .added .count)) (t .added .back)
+  pub scores : Reaches end (scoreBytes (t .nuclei .count) (t .anchors .count) (t .scores .count)) (t .scores .back)
+  pub candidates : Reaches end (l .«candidate_bytes» * t .candidates .count) (t .candidates .back)
+  pub costs : Reaches end costsBytes (t .costs)

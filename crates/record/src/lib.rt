@@ -1,0 +1,8 @@
+// The phrase record: its refusals, and what an accepted one means.
+
+pub mod bytes;
+pub mod layout;
+pub mod limits;
+pub mod refusal;
+pub mod size;
+pub mod trailer;
