@@ -1,4 +1,5 @@
 -- The laws of this layer for those above it.
 pub mod Tests
 pub mod Sizes
+pub mod Below
 pub mod SamplePhrase

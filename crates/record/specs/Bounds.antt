@@ -1,10 +1,12 @@
 -- What the conditions 3 and 4 leave when they do not hold: bounds on the counts, and sections that stand before the trailer.
-use Prim.Native.Nat.{ℕ, _*_, _≤_, _<_}
+use Prim.Native.Nat.{ℕ, _+_, _*_, _≤_, _<_}
 use mathlib.Core.Path.{_≡_}
 use Rattle.record.specs.Layout.{listBytes, scoreBytes, costsBytes}
 use Rattle.record.specs.declared.limits.Limits.{Limits}
 use Rattle.record.specs.declared.trailer.Mark.{Mark}
 use Rattle.record.specs.declared.trailer.Trailer.{Trailer}
+use Rattle.record.specs.declared.layout.Section.{Section}
+use Rattle.record.specs.declared.layout.Layout.{Layout}
 
 pub record Sized (l : Limits) (t : Trailer) : Type 0 where
   pub frames : t .mask .count ≤ l .frames
@@ -31,3 +33,17 @@ pub record Reaching (l : Limits) (end : ℕ) (t : Trailer) : Type 0 where
   pub scores : Reaches end (scoreBytes (t .nuclei .count) (t .anchors .count) (t .scores .count)) (t .scores .back)
   pub candidates : Reaches end (l .«candidate_bytes» * t .candidates .count) (t .candidates .back)
   pub costs : Reaches end costsBytes (t .costs)
+
+-- The sections but the candidates lie within the first `end` bytes: what their readers ask of a layout.
+pub record Within (end : ℕ) (at : Layout) : Type 0 where
+  pub mask : at .mask .start + at .mask .count ≤ end
+  pub nuclei : at .nuclei .start + listBytes (at .nuclei .count) ≤ end
+  pub boundaries : at .boundaries .start + listBytes (at .boundaries .count) ≤ end
+  pub anchors : at .anchors .start + listBytes (at .anchors .count) ≤ end
+  pub added : at .added .start + listBytes (at .added .count) ≤ end
+  pub scores : at .scores .start + scoreBytes (at .nuclei .count) (at .anchors .count) (at .scores .count) ≤ end
+  pub costs : at .costs + costsBytes ≤ end
+
+-- The candidates' section does; their entries have the edition's size.
+abbrev pub CandidatesWithin : Limits → ℕ → Layout → Type 0
+CandidatesWithin l end at = at .candidates .start + l .«candidate_bytes» * at .candidates .count ≤ end

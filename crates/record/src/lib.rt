@@ -5,4 +5,5 @@ pub mod layout;
 pub mod limits;
 pub mod refusal;
 pub mod size;
+pub mod track;
 pub mod trailer;
