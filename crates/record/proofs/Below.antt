@@ -27,8 +27,10 @@ module _ (p : ℕ → Bool) where
       or-true : (a : Bool) → (a || true) ≡ true
       or-true true = refl
       or-true false = refl
+
       at : i ≡ n → (anyBelow p n || p n) ≡ true
       at e = ap (λ (b : Bool). anyBelow p n || b) (ap p (sym e) ∙ here) ∙ or-true (anyBelow p n)
+
       before : anyBelow p n ≡ true → (anyBelow p n || p n) ≡ true
       before e = ap (λ (b : Bool). b || p n) e
 

@@ -2,4 +2,5 @@
 pub mod Tests
 pub mod Sizes
 pub mod Below
+pub mod Entries
 pub mod SamplePhrase

@@ -34,6 +34,17 @@ pub record Reaching (l : Limits) (end : ℕ) (t : Trailer) : Type 0 where
   pub candidates : Reaches end (l .«candidate_bytes» * t .candidates .count) (t .candidates .back)
   pub costs : Reaches end costsBytes (t .costs)
 
+-- no section starts before the record
+pub record Inside (end : ℕ) (t : Trailer) : Type 0 where
+  pub mask : t .mask .back ≤ end
+  pub nuclei : t .nuclei .back ≤ end
+  pub boundaries : t .boundaries .back ≤ end
+  pub anchors : t .anchors .back ≤ end
+  pub added : t .added .back ≤ end
+  pub scores : t .scores .back ≤ end
+  pub candidates : t .candidates .back ≤ end
+  pub costs : t .costs ≤ end
+
 -- The sections but the candidates lie within the first `end` bytes: what their readers ask of a layout.
 pub record Within (end : ℕ) (at : Layout) : Type 0 where
   pub mask : at .mask .start + at .mask .count ≤ end
@@ -47,3 +58,9 @@ pub record Within (end : ℕ) (at : Layout) : Type 0 where
 -- The candidates' section does; their entries have the edition's size.
 abbrev pub CandidatesWithin : Limits → ℕ → Layout → Type 0
 CandidatesWithin l end at = at .candidates .start + l .«candidate_bytes» * at .candidates .count ≤ end
+
+-- What a reader of candidate i asks: the candidates' section, whose entries have the edition's size, lies within the first `end` bytes.
+pub record CandidateRead (l : Limits) (end : ℕ) (at : Layout) (i : ℕ) : Type 0 where
+  pub section : CandidatesWithin l end at
+  pub entry : 8 + l .units ≤ l .«candidate_bytes»
+  pub there : i < at .candidates .count

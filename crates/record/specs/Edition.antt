@@ -1,5 +1,5 @@
 -- The numbers of an edition. Everything else takes them as one record, so that another edition is another value of it.
-use Prim.Native.Nat.{ℕ, _≤_}
+use Prim.Native.Nat.{ℕ, _+_, _≤_}
 use Rattle.record.specs.declared.limits.Limits.{Limits}
 
 -- Document 01: "Limits: F 2,048; N 32; B, A, D, C 64; M 16", "unit count 0 or above 16", "Candidate, 24 bytes", "Result: 52 u32 words for
@@ -20,7 +20,7 @@ edition1 =
       «work_cells» = 1088;
     }
 
--- Numbers so small that no product of three of them leaves a 64-bit word: what the code asks of an edition.
+-- What the code asks of an edition: numbers so small that no product of them leaves a 64-bit word, and entries that hold their columns.
 pub record Moderate (l : Limits) : Type 0 where
   pub frames : l .frames ≤ 65536
   pub nuclei : l .nuclei ≤ 65536
@@ -31,3 +31,4 @@ pub record Moderate (l : Limits) : Type 0 where
   pub units : l .units ≤ 65536
   pub «candidate_bytes» : l .«candidate_bytes» ≤ 65536
   pub «entry_words» : l .«entry_words» ≤ 65536
+  pub entry : 8 + l .units ≤ l .«candidate_bytes»

@@ -1,6 +1,7 @@
 // The phrase record: its refusals, and what an accepted one means.
 
 pub mod bytes;
+pub mod candidates;
 pub mod layout;
 pub mod limits;
 pub mod refusal;

@@ -2,9 +2,8 @@
 
 use crate::bytes::byte_at;
 use crate::bytes::u32_at;
-use crate::layout::Section;
 use crate::layout::Layout;
-
+use crate::layout::Section;
 ghost use mathlib.Core.Path.{_≡_};
 ghost use Prim.Native.Nat.{_+_, _*_, _≤_};
 ghost use lib.ListN.{length};

@@ -42,9 +42,10 @@ loop-less : tie.Need-loop-less Inv-loop μ-loop
 loop-less c = omega arith
 
 loop-again : tie.Need-loop-again Inv-loop μ-loop
-loop-again c =
-    (omega arith,
-    any-more _ _ (c .before .before .before .loop .inv .1) (ap (ltb 1) (sym (c .before .byte-at .ensures .0)) ∙ le-ltb _ _ (c .if1 .left)))
+loop-again c = (
+  omega arith,
+  any-more _ _ (c .before .before .before .loop .inv .1) (ap (ltb 1) (sym (c .before .byte-at .ensures .0)) ∙ le-ltb _ _ (c .if1 .left)),
+)
 
 returns-2 : tie.Need-returns-2 Inv-loop μ-loop
 returns-2 c = any-end _ _ _ (c .before .loop .inv .0) (c .loop-test .left) (c .before .loop .inv .1)

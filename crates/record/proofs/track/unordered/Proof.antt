@@ -64,10 +64,11 @@ loop-less : tie.Need-loop-less Inv-loop μ-loop
 loop-less c = omega arith
 
 loop-again : tie.Need-loop-again Inv-loop μ-loop
-loop-again c =
-    (omega arith,
-    any-more _ _ (c .before .before .before .before .loop .inv .1)
-    (ap₂ leb (sym (c .before .u32-at2 .ensures)) (sym (c .before .before .u32-at .ensures)) ∙ lt-leb _ _ (c .if2 .left)))
+loop-again c = (
+  omega arith,
+  any-more _ _ (c .before .before .before .before .loop .inv .1)
+      (ap₂ leb (sym (c .before .u32-at2 .ensures)) (sym (c .before .before .u32-at .ensures)) ∙ lt-leb _ _ (c .if2 .left)),
+)
 
 returns-3 : tie.Need-returns-3 Inv-loop μ-loop
 returns-3 c = any-end _ _ _ (c .before .loop .inv .0) (c .loop-test .left) (c .before .loop .inv .1)

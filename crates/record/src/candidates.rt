@@ -1,0 +1,87 @@
+// Refusals 8, 9 and 10, candidate by candidate, after `check_candidates`.
+
+use crate::bytes::byte_at;
+use crate::bytes::u32_at;
+use crate::layout::Layout;
+use crate::limits::Limits;
+use crate::refusal::Checked;
+use crate::refusal::Refusal;
+ghost use mathlib.Core.Bool.{false};
+ghost use mathlib.Core.Path.{_≡_};
+ghost use Prim.Native.Nat.{_+_, _≤_, _<_};
+ghost use lib.ListN.{length};
+ghost use Rattle.record.specs.Edition.{Moderate};
+ghost use Rattle.record.specs.Bounds.{CandidateRead};
+ghost use Rattle.record.specs.Layout.{layoutOf};
+ghost use Rattle.record.specs.Conditions.{candidateStart, idAt, unitsAt, columnAt, repeated, badUnits, badColumn};
+ghost use Rattle.record.specs.Refusals.{answer, firstOf, candidateRules};
+
+// Where candidate `i` stands: its entry lies within the record.
+fn candidate_start(bytes: &[u8], limits: Limits, at: Layout, i: usize) -> usize
+    requires { ⌜ CandidateRead limits (length (now bytes)) at i ⌝ }
+    ensures { λ r. ⌜ (r ≡ candidateStart limits at i) × (r + limits .«candidate_bytes» ≤ length (now (bytes .entry))) ⌝ }
+{
+    at.candidates.start + limits.candidate_bytes * i
+}
+
+pub fn id_at(bytes: &[u8], limits: Limits, at: Layout, i: usize) -> u32
+    requires { ⌜ CandidateRead limits (length (now bytes)) at i ⌝ }
+    ensures { λ r. ⌜ r ≡ idAt limits (now (bytes .entry)) at i ⌝ }
+{
+    u32_at(bytes, candidate_start(bytes, limits, at, i))
+}
+
+pub fn units_at(bytes: &[u8], limits: Limits, at: Layout, i: usize) -> usize
+    requires { ⌜ CandidateRead limits (length (now bytes)) at i ⌝ }
+    ensures { λ r. ⌜ r ≡ unitsAt limits (now (bytes .entry)) at i ⌝ }
+{
+    u32_at(bytes, candidate_start(bytes, limits, at, i) + 4) as usize
+}
+
+pub fn column_at(bytes: &[u8], limits: Limits, at: Layout, i: usize, j: usize) -> usize
+    requires { ⌜ CandidateRead limits (length (now bytes)) at i ⌝ }
+    requires { ⌜ j < limits .units ⌝ }
+    ensures { λ r. ⌜ r ≡ columnAt limits (now (bytes .entry)) at i j ⌝ }
+{
+    byte_at(bytes, candidate_start(bytes, limits, at, i) + 8 + j) as usize
+}
+
+fn repeated(bytes: &[u8], limits: Limits, at: Layout, i: usize) -> bool
+    requires { ⌜ CandidateRead limits (length (now bytes)) at i ⌝ }
+    ensures { λ r. ⌜ r ≡ repeated limits (now (bytes .entry)) at i ⌝ }
+{
+    let id = id_at(bytes, limits, at, i);
+    let mut j = 0;
+    while j < i {
+        if id_at(bytes, limits, at, j) == id {
+            return true;
+        }
+        j += 1;
+    }
+    false
+}
+
+fn bad_units(bytes: &[u8], limits: Limits, at: Layout, i: usize) -> bool
+    requires { ⌜ CandidateRead limits (length (now bytes)) at i ⌝ }
+    ensures { λ r. ⌜ r ≡ badUnits limits (now (bytes .entry)) at i ⌝ }
+{
+    let units = units_at(bytes, limits, at, i);
+    (units == 0) | (units > limits.units)
+}
+
+fn bad_column(bytes: &[u8], limits: Limits, at: Layout, i: usize) -> bool
+    requires { ⌜ CandidateRead limits (length (now bytes)) at i ⌝ }
+    requires { ⌜ badUnits limits (now bytes) at i ≡ false ⌝ }
+    ensures { λ r. ⌜ r ≡ badColumn limits (now (bytes .entry)) at i ⌝ }
+{
+    let units = units_at(bytes, limits, at, i);
+    let columns = at.scores.count;
+    let mut j = 0;
+    while j < units {
+        if column_at(bytes, limits, at, i, j) >= columns {
+            return true;
+        }
+        j += 1;
+    }
+    false
+}
