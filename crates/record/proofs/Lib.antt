@@ -3,4 +3,5 @@ pub mod Tests
 pub mod Sizes
 pub mod Below
 pub mod Entries
+pub mod Rules
 pub mod SamplePhrase

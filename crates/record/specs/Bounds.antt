@@ -55,12 +55,7 @@ pub record Within (end : ℕ) (at : Layout) : Type 0 where
   pub scores : at .scores .start + scoreBytes (at .nuclei .count) (at .anchors .count) (at .scores .count) ≤ end
   pub costs : at .costs + costsBytes ≤ end
 
--- The candidates' section does; their entries have the edition's size.
-abbrev pub CandidatesWithin : Limits → ℕ → Layout → Type 0
-CandidatesWithin l end at = at .candidates .start + l .«candidate_bytes» * at .candidates .count ≤ end
-
--- What a reader of candidate i asks: the candidates' section, whose entries have the edition's size, lies within the first `end` bytes.
-pub record CandidateRead (l : Limits) (end : ℕ) (at : Layout) (i : ℕ) : Type 0 where
-  pub section : CandidatesWithin l end at
+-- What the readers of candidates ask: their section, whose entries have the edition's size and hold its columns, does too.
+pub record CandidatesRead (l : Limits) (end : ℕ) (at : Layout) : Type 0 where
+  pub section : at .candidates .start + l .«candidate_bytes» * at .candidates .count ≤ end
   pub entry : 8 + l .units ≤ l .«candidate_bytes»
-  pub there : i < at .candidates .count

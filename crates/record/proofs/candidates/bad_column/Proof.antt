@@ -26,7 +26,7 @@ abbrev μ-loop : tie.MeasureT-loop
 μ-loop bytes limits at i units columns j₀ j = units - j
 
 units-at-requires : tie.Need-units-at-requires Inv-loop μ-loop
-units-at-requires c κs = c .before .pre .0
+units-at-requires c κs = (c .before .pre .0, c .before .pre .1 .0)
 
 loop-holds : tie.Need-loop-holds Inv-loop μ-loop
 loop-holds c = (omega arith, any-none _)
@@ -34,7 +34,7 @@ loop-holds c = (omega arith, any-none _)
 column-at-requires : tie.Need-column-at-requires Inv-loop μ-loop
 column-at-requires c κs =
     let start = c .before .before .before .before in
-    (start .pre .0, omega (arith, units-most (start .args .limits) (now (start .args .bytes)) (start .args .at) (start .args .i) (start .pre .1), c .before .before .units-at .ensures))
+    (start .pre .0, (start .pre .1 .0, omega (arith, units-most (start .args .limits) (now (start .args .bytes)) (start .args .at) (start .args .i) (start .pre .1 .1), c .before .before .units-at .ensures)))
 
 returns : tie.Need-returns Inv-loop μ-loop
 returns c =

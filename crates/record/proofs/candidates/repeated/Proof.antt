@@ -33,7 +33,7 @@ loop-holds c = (omega arith, any-none _)
 id-at-requires-2 : tie.Need-id-at-requires-2 Inv-loop μ-loop
 id-at-requires-2 c κs =
     let asked = c .before .before .before .before .pre in
-    record { section = asked .section; entry = asked .entry; there = lt-trans (c .loop-test .taken) (asked .there) }
+    (asked .0, lt-trans (c .loop-test .taken) (asked .1))
 
 returns : tie.Need-returns Inv-loop μ-loop
 returns c =
