@@ -4,4 +4,5 @@ pub mod Sizes
 pub mod Below
 pub mod Entries
 pub mod Rules
+pub mod Figures
 pub mod SamplePhrase

@@ -31,3 +31,12 @@ taken false x y e = absurd (false≢true e)
 pub passed {ℓ} : {A : Type ℓ} (a : Bool) (x y : A) {z : A} → a ≡ false → z ≡ y → z ≡ cond a x y
 passed true x y e h = absurd (true≢false e)
 passed false x y e h = h
+
+-- a disjunction whose first part is known
+pub or-found : (a b : Bool) → a ≡ true → true ≡ (a || b)
+or-found true b e = refl
+or-found false b e = absurd (false≢true e)
+
+pub or-rest : (a b : Bool) → a ≡ false → b ≡ (a || b)
+or-rest true b e = absurd (true≢false e)
+or-rest false b e = refl

@@ -9,7 +9,7 @@ use lib.IntN.{pos}
 use lib.Ieee.{Float, binary32, binary64, neg, ofBits, ofInt}
 use Rattle.record.specs.Bytes.{byteAt, u32At, u64At}
 use Rattle.record.specs.Below.{anyBelow}
-use Rattle.record.specs.Range.{between, within}
+use Rattle.ieee.specs.Range.{between, within}
 use Rattle.record.specs.Layout.{trailerBytes, listBytes, scoreBytes, costsBytes}
 use Rattle.record.specs.declared.limits.Limits.{Limits}
 use Rattle.record.specs.declared.trailer.Mark.{Mark}
@@ -116,9 +116,8 @@ abbrev pub f64At : List ℕ → ℕ → Float
 f64At bytes at = ofBits binary64 (u64At bytes at)
 
 -- "Scores: f32, row by row, N + A rows of C columns, each within ±1,000,000"
-abbrev pub badScores : List ℕ → Layout → Bool
-badScores bytes at =
-    anyBelow (λ i. not (within million (f32At bytes (at .scores .start + 4 * i)))) ((at .nuclei .count + at .anchors .count) * at .scores .count)
+abbrev pub badScores : List ℕ → ℕ → ℕ → Bool
+badScores bytes start entries = anyBelow (λ i. not (within million (f32At bytes (start + 4 * i)))) entries
 
 -- "f64 per_frame and insertion_llr (each within ±1,000); f32 unvoiced score (±1,000,000)"
 abbrev pub badFigures : List ℕ → ℕ → Bool
@@ -148,7 +147,7 @@ badTable bytes table = anyBelow (λ i. not (duration? (f64At bytes (table + 8 * 
 -- "The second table belongs to the added stage and is unchecked where A = 0."
 unfoldable pub badCost : List ℕ → Layout → Bool
 badCost bytes at =
-    badScores bytes at
+    badScores bytes (at .scores .start) ((at .nuclei .count + at .anchors .count) * at .scores .count)
     || badFigures bytes (at .costs)
     || badTable bytes (firstTable (at .costs))
     || (ltb 0 (at .anchors .count) && badTable bytes (secondTable (at .costs)))

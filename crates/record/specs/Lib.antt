@@ -3,7 +3,6 @@ pub mod Bytes
 pub mod Below
 pub mod Edition
 pub mod Layout
-pub mod Range
 pub mod Conditions
 pub mod Bounds
 pub mod Refusals
