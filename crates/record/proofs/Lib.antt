@@ -4,5 +4,6 @@ pub mod Sizes
 pub mod Below
 pub mod Entries
 pub mod Rules
+pub mod Chain
 pub mod Figures
 pub mod SamplePhrase

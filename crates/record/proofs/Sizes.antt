@@ -1,13 +1,14 @@
 -- What follows where conditions 3 and 4 do not hold.
-use Prim.Native.Nat.{ℕ, _+_, _*_, _≤_}
+use Prim.Native.Nat.{ℕ, _+_, _-_, _*_, _≤_}
 use mathlib.Core.Bool.{false, _&&_}
 use mathlib.Core.Path.{_≡_}
 use native.Mathlib.Nat.{mul-le-mul}
 use native.Mathlib.Omega.{arith}
 use borrow.Author.Tests.{ltb-false, eq-eqb}
-use lib.Dec.{eqb, ltb}
-use Rattle.record.specs.Edition.{Moderate}
-use Rattle.record.specs.Bounds.{Sized, Reaches, Reaching}
+use lib.Dec.{eqb, ltb, lit≤}
+use Rattle.record.specs.Edition.{edition1, Moderate}
+use Rattle.record.specs.Bounds.{Sized, Reaches, Reaching, Inside, Within, CandidatesRead}
+use Rattle.record.specs.Layout.{layoutFrom}
 use Rattle.record.specs.Conditions.{oversized, outside, overreaching}
 use Rattle.record.specs.declared.limits.Limits.{Limits}
 use Rattle.record.specs.declared.trailer.Mark.{Mark}
@@ -55,4 +56,53 @@ reaching l end t e =
       scores = reaches _ _ _ (search (or-left, or-right) depth 12);
       candidates = reaches _ _ _ (search (or-left, or-right) depth 12);
       costs = reaches _ _ _ (search (or-left, or-right) depth 12);
+    }
+
+pub inside : (l : Limits) (end : ℕ) (t : Trailer) → Reaching l end t → Inside end t
+inside l end t r =
+    record {
+      mask = r .mask .inside;
+      nuclei = r .nuclei .inside;
+      boundaries = r .boundaries .inside;
+      anchors = r .anchors .inside;
+      added = r .added .inside;
+      scores = r .scores .inside;
+      candidates = r .candidates .inside;
+      costs = r .costs .inside;
+    }
+
+-- a section that starts `back` bytes before `end` ends before it
+ends : {end bytes back : ℕ} → Reaches end bytes back → {long : ℕ} → end ≤ long → end - back + bytes ≤ long
+ends r fits = omega arith
+
+pub within-layout : (l : Limits) (end long : ℕ) (t : Trailer) → Reaching l end t → end ≤ long → Within long (layoutFrom end t)
+unfolding layoutFrom
+within-layout l end long t r fits =
+    record {
+      mask = ends (r .mask) fits;
+      nuclei = ends (r .nuclei) fits;
+      boundaries = ends (r .boundaries) fits;
+      anchors = ends (r .anchors) fits;
+      added = ends (r .added) fits;
+      scores = ends (r .scores) fits;
+      costs = ends (r .costs) fits;
+    }
+
+pub candidates-layout : (l : Limits) (end long : ℕ) (t : Trailer) → Moderate l → Reaching l end t → end ≤ long → CandidatesRead l long (layoutFrom end t)
+unfolding layoutFrom
+candidates-layout l end long t m r fits = record { section = ends (r .candidates) fits; entry = m .entry }
+
+pub moderate : Moderate edition1
+moderate =
+    record {
+      frames = lit≤ tt;
+      nuclei = lit≤ tt;
+      boundaries = lit≤ tt;
+      anchors = lit≤ tt;
+      columns = lit≤ tt;
+      candidates = lit≤ tt;
+      units = lit≤ tt;
+      «candidate_bytes» = lit≤ tt;
+      «entry_words» = lit≤ tt;
+      entry = lit≤ tt;
     }

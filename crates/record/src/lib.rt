@@ -2,6 +2,7 @@
 
 pub mod bytes;
 pub mod candidates;
+pub mod check;
 pub mod cost;
 pub mod layout;
 pub mod limits;
