@@ -5,5 +5,8 @@ pub mod Below
 pub mod Entries
 pub mod Rules
 pub mod Chain
+pub mod Passed
+pub mod Fits
+pub mod Accepted
 pub mod Figures
 pub mod SamplePhrase

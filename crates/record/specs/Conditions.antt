@@ -128,6 +128,9 @@ badFigures bytes costs =
 abbrev pub shortest : ℕ
 shortest = 6
 
+abbrev pub longest : ℕ
+longest = 80
+
 abbrev pub tableEntries : ℕ
 tableEntries = 75
 

@@ -7,4 +7,5 @@ pub mod Conditions
 pub mod Bounds
 pub mod Refusals
 pub mod Meaning
+pub mod Accepted
 pub mod Sample

@@ -1,8 +1,8 @@
 -- At each test the rest of the chain of rules decides what the whole of it does; a rule whose condition holds ends it.
 use Prim.Native.Nat.{ℕ, _+_, _-_, _≤_}
-use mathlib.Core.Bool.{Bool, true, false}
+use mathlib.Core.Bool.{cond}
 use mathlib.Core.List.{List}
-use mathlib.Core.Option.{Option}
+use mathlib.Core.Option.{Option, some}
 use mathlib.Core.Path.{_≡_, refl, sym, ap, ap₂, subst, subst⁻¹, _∙_}
 use native.Mathlib.Omega.{arith}
 use borrow.Author.Needs.{needs}
@@ -20,6 +20,7 @@ use Rattle.record.specs.declared.trailer.Trailer.{Trailer}
 use Rattle.record.specs.declared.layout.Section.{Section}
 use Rattle.record.specs.declared.layout.Layout.{Layout}
 use Rattle.record.specs.declared.refusal.Refusal.{Refusal}
+use Rattle.record.specs.declared.refusal.Refusal.the-variants.{Stub}
 use Rattle.record.proofs.Tests.{or-left, taken, passed}
 use Rattle.record.proofs.Sizes.{sized, reaching, inside, within-layout, candidates-layout, moderate}
 use Rattle.record.proofs.Chain.{chain, afterStub, afterEdition, afterSize, afterReach, afterTrack, afterCost, afterBare}
@@ -29,6 +30,10 @@ use Rattle.record.proofs.check.check.Tie as tie
 -- the record's bytes
 abbrev bytes-of : tie.After-shared-slice-known → List ℕ
 bytes-of c = now (c .before .args .bytes)
+
+chained : (bytes : List ℕ) → cond (stub bytes) (some Stub) (afterStub edition1 bytes) ≡ refusalOf bytes
+unfolding refusalOf
+chained bytes = chain edition1 bytes
 
 -- a condition that holds ends the chain with its refusal
 refused : (bytes : List ℕ) {o : Option Refusal} → o ≡ refusalOf bytes → answer o (layoutOf bytes) ≡ answer (refusalOf bytes) (layoutOf bytes)
@@ -43,10 +48,10 @@ same1 : (c : tie.After-stub) → stub (bytes-of (c .before)) ≡ c .stub .result
 same1 c = sym (c .stub .ensures)
 
 returns : tie.Need-returns
-returns c = refused _ (taken (stub (bytes-of (c .before .before))) _ _ (same1 (c .before) ∙ c .if1 .taken) ∙ chain _)
+returns c = refused _ (taken (stub (bytes-of (c .before .before))) _ _ (same1 (c .before) ∙ c .if1 .taken) ∙ chained _)
 
-left1 : (c : tie.Else1) → afterStub (bytes-of (c .before .before)) ≡ refusalOf (bytes-of (c .before .before))
-left1 c = passed (stub (bytes-of (c .before .before))) _ _ (same1 (c .before) ∙ c .if1 .left) refl ∙ chain _
+left1 : (c : tie.Else1) → afterStub edition1 (bytes-of (c .before .before)) ≡ refusalOf (bytes-of (c .before .before))
+left1 c = passed (stub (bytes-of (c .before .before))) _ _ (same1 (c .before) ∙ c .if1 .left) refl ∙ chained _
 
 long-enough : (c : tie.Else1) → 64 ≤ length (bytes-of (c .before .before))
 long-enough c =
@@ -71,7 +76,7 @@ returns-2 : tie.Need-returns-2
 returns-2 c =
     refused _ (taken (otherEdition edition1 (trailerOf (bytes-of (c .before .before .before .before .before .before)))) _ _ (same2 (c .before) ∙ c .if2 .taken) ∙ left1 (c .before .before .before .before))
 
-left2 : (c : tie.Else2) → afterEdition (bytes-of (c .before .before .before .before .before .before)) ≡ refusalOf (bytes-of (c .before .before .before .before .before .before))
+left2 : (c : tie.Else2) → afterEdition edition1 (bytes-of (c .before .before .before .before .before .before)) ≡ refusalOf (bytes-of (c .before .before .before .before .before .before))
 left2 c = passed (otherEdition edition1 (trailerOf (bytes-of (c .before .before .before .before .before .before)))) _ _ (same2 (c .before) ∙ c .if2 .left) refl ∙ left1 (c .before .before .before .before)
 
 -- ---- 3
@@ -86,7 +91,7 @@ returns-3 : tie.Need-returns-3
 returns-3 c =
     refused _ (taken (oversized edition1 (trailerOf (bytes-of (c .before .before .before .before .before .before .before .before)))) _ _ (same3 (c .before) ∙ c .if3 .taken) ∙ left2 (c .before .before))
 
-left3 : (c : tie.Else3) → afterSize (bytes-of (c .before .before .before .before .before .before .before .before)) ≡ refusalOf (bytes-of (c .before .before .before .before .before .before .before .before))
+left3 : (c : tie.Else3) → afterSize edition1 (bytes-of (c .before .before .before .before .before .before .before .before)) ≡ refusalOf (bytes-of (c .before .before .before .before .before .before .before .before))
 left3 c = passed (oversized edition1 (trailerOf (bytes-of (c .before .before .before .before .before .before .before .before)))) _ _ (same3 (c .before) ∙ c .if3 .left) refl ∙ left2 (c .before .before)
 
 -- ---- 4
@@ -110,7 +115,7 @@ returns-4 c =
     let bytes = bytes-of (c .before .before .before .before .before .before .before .before .before .before) in
     refused _ (taken (overreaching edition1 (trailerStart bytes) (trailerOf bytes)) _ _ (same4 (c .before) ∙ c .if4 .taken) ∙ left3 (c .before .before))
 
-left4 : (c : tie.Else4) → afterReach (bytes-of (c .before .before .before .before .before .before .before .before .before .before)) ≡ refusalOf (bytes-of (c .before .before .before .before .before .before .before .before .before .before))
+left4 : (c : tie.Else4) → afterReach edition1 (bytes-of (c .before .before .before .before .before .before .before .before .before .before)) ≡ refusalOf (bytes-of (c .before .before .before .before .before .before .before .before .before .before))
 left4 c =
     let bytes = bytes-of (c .before .before .before .before .before .before .before .before .before .before) in
     passed (overreaching edition1 (trailerStart bytes) (trailerOf bytes)) _ _ (same4 (c .before) ∙ c .if4 .left) refl ∙ left3 (c .before .before)
@@ -150,7 +155,7 @@ returns-5 c =
     let bytes = bytes-of (c .before .before .before .before .before .before .before .before .before .before .before .before .before) in
     refused _ (taken (badTrack bytes (layoutOf bytes)) _ _ (same5 (c .before) ∙ c .if5 .taken) ∙ left4 (c .before .before .before))
 
-left5 : (c : tie.Else5) → afterTrack (bytes-of (c .before .before .before .before .before .before .before .before .before .before .before .before .before)) ≡ refusalOf (bytes-of (c .before .before .before .before .before .before .before .before .before .before .before .before .before))
+left5 : (c : tie.Else5) → afterTrack edition1 (bytes-of (c .before .before .before .before .before .before .before .before .before .before .before .before .before)) ≡ refusalOf (bytes-of (c .before .before .before .before .before .before .before .before .before .before .before .before .before))
 left5 c =
     let bytes = bytes-of (c .before .before .before .before .before .before .before .before .before .before .before .before .before) in
     passed (badTrack bytes (layoutOf bytes)) _ _ (same5 (c .before) ∙ c .if5 .left) refl ∙ left4 (c .before .before .before)
@@ -168,7 +173,7 @@ returns-6 c =
     let bytes = bytes-of (c .before .before .before .before .before .before .before .before .before .before .before .before .before .before .before) in
     refused _ (taken (badCost bytes (layoutOf bytes)) _ _ (same6 (c .before) ∙ c .if6 .taken) ∙ left5 (c .before .before))
 
-left6 : (c : tie.Else6) → afterCost (bytes-of (c .before .before .before .before .before .before .before .before .before .before .before .before .before .before .before)) ≡ refusalOf (bytes-of (c .before .before .before .before .before .before .before .before .before .before .before .before .before .before .before))
+left6 : (c : tie.Else6) → afterCost edition1 (bytes-of (c .before .before .before .before .before .before .before .before .before .before .before .before .before .before .before)) ≡ refusalOf (bytes-of (c .before .before .before .before .before .before .before .before .before .before .before .before .before .before .before))
 left6 c =
     let bytes = bytes-of (c .before .before .before .before .before .before .before .before .before .before .before .before .before .before .before) in
     passed (badCost bytes (layoutOf bytes)) _ _ (same6 (c .before) ∙ c .if6 .left) refl ∙ left5 (c .before .before)
@@ -181,7 +186,7 @@ returns-7 c =
     let none = ap (λ (at : Layout). at .candidates .count) (sym (laid (c .before .before .before .before .before .before))) ∙ c .if7 .taken in
     refused _ (taken (bare (layoutOf bytes)) _ _ (eq-eqb _ 0 none) ∙ left6 (c .before .before))
 
-left7 : (c : tie.Else7) → afterBare (bytes-of (c .before .before .before .before .before .before .before .before .before .before .before .before .before .before .before .before .before)) ≡ refusalOf (bytes-of (c .before .before .before .before .before .before .before .before .before .before .before .before .before .before .before .before .before))
+left7 : (c : tie.Else7) → afterBare edition1 (bytes-of (c .before .before .before .before .before .before .before .before .before .before .before .before .before .before .before .before .before)) ≡ refusalOf (bytes-of (c .before .before .before .before .before .before .before .before .before .before .before .before .before .before .before .before .before))
 left7 c =
     let bytes = bytes-of (c .before .before .before .before .before .before .before .before .before .before .before .before .before .before .before .before .before) in
     passed (bare (layoutOf bytes)) _ _ (ne-eqb _ 0 (λ none. c .if7 .left (ap (λ (at : Layout). at .candidates .count) (laid (c .before .before .before .before .before .before)) ∙ none))) refl
