@@ -1,0 +1,180 @@
+-- The phrase of an accepted record fits: every bound that decoding goes by, from no condition of the record's own holding.
+use Prim.Native.Nat.{ℕ, _+_, _-_, _*_, _≤_, _<_}
+use mathlib.Core.Bool.{Bool, false, not, _&&_, _||_}
+use mathlib.Core.List.{List}
+use mathlib.Core.Path.{_≡_, sym, ap, subst, subst⁻¹, _∙_}
+use native.Mathlib.Nat.{lt-trans}
+use native.Mathlib.Omega.{arith}
+use borrow.Author.Tests.{ltb-false, leb-false, lt-ltb, eqb-false}
+use lib.Dec.{ltb, eqb}
+use lib.ListN.{length, getD}
+use lib.Ieee.{binary32, binary64}
+use Rattle.ieee.specs.Range.{within}
+use Rattle.ieee.specs.Value.{Within}
+use Rattle.phrase.specs.Phrase.{Phrase, Stage, Candidate, spoken}
+use Rattle.record.specs.Bytes.{byteAt, u32At, u64At}
+use Rattle.record.specs.Edition.{edition1}
+use Rattle.record.specs.Bounds.{Sized}
+use Rattle.record.specs.Layout.{trailerOf, layoutFrom, layoutOf}
+use Rattle.record.specs.Conditions.{lastFrame, noFrame, badList, badMask, badEdges, badTrack, speechStart, speechEnd, thousand, million, shortest, longest, firstTable, secondTable, f32At, f64At, badScores, badFigures, badTable, badCost, idAt, unitsAt, columnAt, repeated, badColumn}
+use Rattle.record.specs.Refusals.{firstOf, ownRules, refusalOf}
+use Rattle.record.specs.Meaning.{maskAt, framesAt, durationAt, scoreAt, speechOf, candidateAt, phraseAt, phraseOf}
+use Rattle.record.specs.Accepted.{Laid, Frames, StageFit, CandidateFit, Fit}
+use Rattle.record.specs.declared.limits.Limits.{Limits}
+use Rattle.record.specs.declared.layout.Section.{Section}
+use Rattle.record.specs.declared.layout.Layout.{Layout}
+use Rattle.record.proofs.Tests.{or-left, or-right, and-right, not-zero}
+use Rattle.record.proofs.Sizes.{sized}
+use Rattle.record.proofs.Below.{none-below, length-listed, getD-listed}
+use Rattle.record.proofs.Entries.{units-some, units-most}
+use Rattle.record.proofs.Passed.{Passed, none-holds}
+use Rattle.record.proofs.Fits.{frames-fit, score-fits, cost-fits, table-fits, edges-fit, score-place}
+
+-- the counts, of the layout
+record Counted (l : Limits) (at : Layout) : Type 0 where
+  frames : at .mask .count ≤ l .frames
+  nuclei : at .nuclei .count ≤ l .nuclei
+  boundaries : at .boundaries .count ≤ l .boundaries
+  anchors : at .anchors .count ≤ l .anchors
+  added : at .added .count ≤ l .boundaries
+  columns : at .scores .count ≤ l .columns
+  candidates : at .candidates .count ≤ l .candidates
+  someColumn : 0 < at .scores .count
+  nothingAdded : at .anchors .count ≡ 0 → at .added .count ≡ 0
+
+counted : (l : Limits) (bytes : List ℕ) → Sized l (trailerOf bytes) → Counted l (layoutOf bytes)
+unfolding layoutOf layoutFrom
+counted l bytes s =
+    record {
+      frames = s .frames;
+      nuclei = s .nuclei;
+      boundaries = s .boundaries;
+      anchors = s .anchors;
+      added = s .added;
+      columns = s .columns;
+      candidates = s .candidates;
+      someColumn = s .someColumn;
+      nothingAdded = s .nothingAdded
+    }
+
+-- condition 5, part by part
+record Tracked (bytes : List ℕ) (at : Layout) : Type 0 where
+  mask : badMask bytes (at .mask) ≡ false
+  nuclei : badList bytes (at .nuclei) ≡ false
+  boundaries : badList bytes (at .boundaries) ≡ false
+  anchors : badList bytes (at .anchors) ≡ false
+  added : badList bytes (at .added) ≡ false
+  speech : badEdges (speechStart bytes (at .costs)) (speechEnd bytes (at .costs)) ≡ false
+
+tracked : (bytes : List ℕ) (at : Layout) → badTrack bytes at ≡ false → Tracked bytes at
+unfolding badTrack
+tracked bytes at e =
+    record {
+      mask = search (or-left, or-right) depth 8;
+      nuclei = search (or-left, or-right) depth 8;
+      boundaries = search (or-left, or-right) depth 8;
+      anchors = search (or-left, or-right) depth 8;
+      added = search (or-left, or-right) depth 8;
+      speech = search (or-left, or-right) depth 8
+    }
+
+-- condition 6, part by part
+record Priced (bytes : List ℕ) (at : Layout) : Type 0 where
+  scores : badScores bytes (at .scores .start) ((at .nuclei .count + at .anchors .count) * at .scores .count) ≡ false
+  perFrame : not (within thousand (f64At bytes (at .costs))) ≡ false
+  insertion : not (within thousand (f64At bytes (at .costs + 8))) ≡ false
+  unvoiced : not (within million (f32At bytes (at .costs + 16))) ≡ false
+  first : badTable bytes (firstTable (at .costs)) ≡ false
+  second : (ltb 0 (at .anchors .count) && badTable bytes (secondTable (at .costs))) ≡ false
+
+priced : (bytes : List ℕ) (at : Layout) → badCost bytes at ≡ false → Priced bytes at
+unfolding badCost
+priced bytes at e =
+    record {
+      scores = search (or-left, or-right) depth 8;
+      perFrame = search (or-left, or-right) depth 8;
+      insertion = search (or-left, or-right) depth 8;
+      unvoiced = search (or-left, or-right) depth 8;
+      first = search (or-left, or-right) depth 8;
+      second = search (or-left, or-right) depth 8
+    }
+
+-- ---- from the parts to the phrase
+
+stage-fit : (bytes : List ℕ) (anchors boundaries : Section) (table : ℕ) (row a b : ℕ) → badList bytes anchors ≡ false → badList bytes boundaries ≡ false → anchors .count ≤ a → boundaries .count ≤ b → StageFit a b (record { anchors = framesAt bytes anchors; firstRow = row; boundaries = framesAt bytes boundaries; duration = durationAt bytes table })
+stage-fit bytes anchors boundaries table row a b fa fb la lb =
+    record {
+      fewAnchors = subst (λ (n : ℕ). n ≤ a) (sym (length-listed _ (anchors .count))) la;
+      fewBoundaries = subst (λ (n : ℕ). n ≤ b) (sym (length-listed _ (boundaries .count))) lb;
+      anchors = frames-fit bytes anchors fa;
+      boundaries = frames-fit bytes boundaries fb
+    }
+
+module _ (l : Limits) (bytes : List ℕ) (p : Passed l bytes) where
+  candidate-fit : (i : ℕ) → i < layoutOf bytes .candidates .count → CandidateFit (l .units) (layoutOf bytes .scores .count) (candidateAt l bytes (layoutOf bytes) i)
+  candidate-fit i below =
+      let q = p .candidate i below in
+      let long = length-listed (columnAt l bytes (layoutOf bytes) i) (unitsAt l bytes (layoutOf bytes) i) in
+      record {
+        someUnit = subst (λ (n : ℕ). 0 < n) (sym long) (units-some l bytes (layoutOf bytes) i (q .units));
+        fewUnits = subst (λ (n : ℕ). n ≤ l .units) (sym long) (units-most l bytes (layoutOf bytes) i (q .units));
+        below = λ j m.
+          let inside = subst (λ (n : ℕ). j < n) long m in
+          subst (λ (n : ℕ). n < layoutOf bytes .scores .count) (sym (getD-listed (columnAt l bytes (layoutOf bytes) i) _ j 0 inside)) (leb-false _ _ (none-below _ _ (q .column) j inside))
+      }
+
+  ids-differ : (i j : ℕ) → i < j → j < layoutOf bytes .candidates .count → idAt l bytes (layoutOf bytes) i ≡ idAt l bytes (layoutOf bytes) j → ⊥
+  ids-differ i j before below = eqb-false _ _ (none-below (λ k. eqb (idAt l bytes (layoutOf bytes) k) (idAt l bytes (layoutOf bytes) j)) j (p .candidate j below .twice) i before)
+
+  pub phrase-fits : Fit l (layoutOf bytes .scores .count) (phraseAt l bytes (layoutOf bytes))
+  unfolding phraseAt
+  phrase-fits =
+      let at = layoutOf bytes in
+      let t = tracked bytes at (p .track) in
+      let r = priced bytes at (p .cost) in
+      let n = counted l bytes (sized l (trailerOf bytes) (p .size)) in
+      let long = length-listed (candidateAt l bytes at) (at .candidates .count) in
+      let anchors : length (framesAt bytes (at .anchors)) ≡ at .anchors .count = length-listed _ _ in
+      let nuclei : length (framesAt bytes (at .nuclei)) ≡ at .nuclei .count = length-listed _ _ in
+      let mask : length (maskAt bytes (at .mask)) ≡ at .mask .count = length-listed _ _ in
+      record {
+        fewFrames = subst (λ (k : ℕ). k ≤ l .frames) (sym mask) (n .frames);
+        mask = λ i below.
+          let inside = subst (λ (k : ℕ). i < k) mask below in
+          subst (λ (k : ℕ). k ≤ 1) (sym (getD-listed _ _ i 0 inside)) (ltb-false _ _ (none-below _ _ (t .mask) i inside));
+        nuclei = stage-fit bytes (at .nuclei) (at .boundaries) _ _ _ _ (t .nuclei) (t .boundaries) (n .nuclei) (n .boundaries);
+        added = stage-fit bytes (at .anchors) (at .added) _ _ _ _ (t .anchors) (t .added) (n .anchors) (n .added);
+        nothingAdded = λ none. length-listed _ (at .added .count) ∙ n .nothingAdded (sym anchors ∙ none);
+        speech = λ start end e. edges-fit (eqb (speechStart bytes (at .costs)) noFrame && eqb (speechEnd bytes (at .costs)) noFrame) (speechStart bytes (at .costs)) (speechEnd bytes (at .costs)) start end (t .speech) e;
+        someColumn = n .someColumn;
+        fewColumns = n .columns;
+        scores = λ row column below inside.
+          let rows : row < at .nuclei .count + at .anchors .count = omega arith in
+          score-fits (u32At bytes (at .scores .start + 4 * (row * at .scores .count + column))) (none-below _ _ (r .scores) (row * at .scores .count + column) (score-place (at .nuclei .count + at .anchors .count) (at .scores .count) row column rows inside));
+        perFrame = cost-fits (u64At bytes (at .costs)) (r .perFrame);
+        insertion = cost-fits (u64At bytes (at .costs + 8)) (r .insertion);
+        unvoiced = score-fits (u32At bytes (at .costs + 16)) (r .unvoiced);
+        durations = table-fits bytes (firstTable (at .costs)) (r .first);
+        addedDurations = λ some.
+          table-fits bytes (secondTable (at .costs)) (and-right _ _ (r .second) (lt-ltb 0 (at .anchors .count) (omega arith)));
+        someCandidate = subst (λ (k : ℕ). 0 < k) (sym long) (not-zero _ (p .bare));
+        fewCandidates = subst (λ (k : ℕ). k ≤ l .candidates) (sym long) (n .candidates);
+        candidates = λ i other below.
+          let inside = subst (λ (k : ℕ). i < k) long below in
+          subst (CandidateFit (l .units) (at .scores .count)) (sym (getD-listed (candidateAt l bytes at) _ i other inside)) (candidate-fit i inside);
+        distinct = λ i j other before below e.
+          let inside = subst (λ (k : ℕ). j < k) long below in
+          let one = getD-listed (candidateAt l bytes at) _ i other (lt-trans before inside) in
+          let two = getD-listed (candidateAt l bytes at) _ j other inside in
+          ids-differ i j before inside (ap (λ (x : Candidate). x .id) (sym one) ∙ e ∙ ap (λ (x : Candidate). x .id) two)
+      }
+
+pub laid-passed : {bytes : List ℕ} {at : Layout} → Laid bytes at → Passed edition1 bytes
+unfolding refusalOf
+laid-passed {bytes} h = none-holds edition1 bytes (h .accepted)
+
+-- the law for those above: an accepted record's phrase fits
+pub fit : {bytes : List ℕ} {at : Layout} → Laid bytes at → Fit edition1 (at .scores .count) (phraseOf bytes)
+unfolding phraseOf
+fit {bytes} h =
+    subst⁻¹ (λ (x : Layout). Fit edition1 (x .scores .count) (phraseAt edition1 bytes (layoutOf bytes))) (h .layout) (phrase-fits edition1 bytes (laid-passed h))

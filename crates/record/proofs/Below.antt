@@ -1,0 +1,55 @@
+-- Laws of `anyBelow` and `listed`. A loop that looks for the first number at which a test holds keeps `anyBelow p i ≡ false`.
+use Prim.Native.Nat.{ℕ, zero, suc, _+_, _≤_, _<_}
+use mathlib.Core.Bool.{Bool, true, false, _||_, true≢false}
+use mathlib.Core.Path.{_≡_, refl, sym, ap, subst, _∙_}
+use mathlib.Core.Logic.{⊎-elim}
+use mathlib.Core.List.{List, [], _∷_}
+use native.Mathlib.Nat.{le-of-suc-le-suc, eq-or-lt-of-le, not-suc-le-zero, le-antisymm}
+use native.Mathlib.Numerals.{add-one}
+use lib.ListN.{length, getD}
+use Rattle.record.specs.Below.{anyBelow, listed}
+use Rattle.record.proofs.Tests.{or-left, or-right}
+
+module _ (p : ℕ → Bool) where
+  pub any-none : anyBelow p 0 ≡ false
+  unfolding anyBelow
+  any-none = refl
+
+  pub any-more : (i : ℕ) → anyBelow p i ≡ false → p i ≡ false → anyBelow p (i + 1) ≡ false
+  unfolding anyBelow
+  any-more i none here = rw (add-one, none, here) refl
+
+  pub any-found : (i n : ℕ) → i < n → p i ≡ true → anyBelow p n ≡ true
+  unfolding anyBelow
+  any-found i zero l here = absurd (not-suc-le-zero l)
+  any-found i (suc n) l here = ⊎-elim (λ e. at e) (λ lt. before (any-found i n lt here)) (eq-or-lt-of-le (le-of-suc-le-suc l))
+    where
+      or-true : (a : Bool) → (a || true) ≡ true
+      or-true true = refl
+      or-true false = refl
+
+      at : i ≡ n → (anyBelow p n || p n) ≡ true
+      at e = ap (λ (b : Bool). anyBelow p n || b) (ap p (sym e) ∙ here) ∙ or-true (anyBelow p n)
+
+      before : anyBelow p n ≡ true → (anyBelow p n || p n) ≡ true
+      before e = ap (λ (b : Bool). b || p n) e
+
+  pub any-end : (i n : ℕ) → i ≤ n → n ≤ i → anyBelow p i ≡ false → false ≡ anyBelow p n
+  any-end i n le ge none = sym none ∙ ap (anyBelow p) (le-antisymm le ge)
+
+  pub none-below : (n : ℕ) → anyBelow p n ≡ false → (i : ℕ) → i < n → p i ≡ false
+  unfolding anyBelow
+  none-below zero e i l = absurd (not-suc-le-zero l)
+  none-below (suc n) e i l =
+      ⊎-elim (λ (h : i ≡ n). ap p h ∙ or-right (anyBelow p n) (p n) e) (λ lt. none-below n (or-left (anyBelow p n) (p n) e) i lt) (eq-or-lt-of-le (le-of-suc-le-suc l))
+
+pub length-listed {ℓ} : {A : Type ℓ} (f : ℕ → A) (n : ℕ) → length (listed f n) ≡ n
+unfolding listed
+length-listed f zero = refl
+length-listed f (suc n) = ap suc (length-listed (λ i. f (suc i)) n)
+
+pub getD-listed {ℓ} : {A : Type ℓ} (f : ℕ → A) (n i : ℕ) (d : A) → i < n → getD (listed f n) i d ≡ f i
+unfolding listed
+getD-listed f zero i d l = absurd (not-suc-le-zero l)
+getD-listed f (suc n) zero d l = refl
+getD-listed f (suc n) (suc i) d l = getD-listed (λ j. f (suc j)) n i d (le-of-suc-le-suc l)

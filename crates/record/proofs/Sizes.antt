@@ -1,0 +1,108 @@
+-- What follows where conditions 3 and 4 do not hold.
+use Prim.Native.Nat.{ℕ, _+_, _-_, _*_, _≤_}
+use mathlib.Core.Bool.{false, _&&_}
+use mathlib.Core.Path.{_≡_}
+use native.Mathlib.Nat.{mul-le-mul}
+use native.Mathlib.Omega.{arith}
+use borrow.Author.Tests.{ltb-false, eq-eqb}
+use lib.Dec.{eqb, ltb, lit≤}
+use Rattle.record.specs.Edition.{edition1, Moderate}
+use Rattle.record.specs.Bounds.{Sized, Reaches, Reaching, Inside, Within, CandidatesRead}
+use Rattle.record.specs.Layout.{layoutFrom}
+use Rattle.record.specs.Conditions.{oversized, outside, overreaching}
+use Rattle.record.specs.declared.limits.Limits.{Limits}
+use Rattle.record.specs.declared.trailer.Mark.{Mark}
+use Rattle.record.specs.declared.trailer.Trailer.{Trailer}
+use Rattle.record.proofs.Tests.{or-left, or-right, and-right, not-zero}
+
+-- the most a score section and a candidate section have in an edition of moderate numbers
+pub scores-most : {l : Limits} {t : Trailer} → Moderate l → Sized l t → (t .nuclei .count + t .anchors .count) * t .scores .count ≤ 131072 * 65536
+scores-most m s = mul-le-mul {n₂ = 131072} {m₂ = 65536} (omega arith) (omega arith)
+
+pub candidates-most : {l : Limits} {t : Trailer} → Moderate l → Sized l t → l .«candidate_bytes» * t .candidates .count ≤ 65536 * 65536
+candidates-most m s = mul-le-mul {n₂ = 65536} {m₂ = 65536} (omega arith) (omega arith)
+
+pub sized : (l : Limits) (t : Trailer) → oversized l t ≡ false → Sized l t
+unfolding oversized
+sized l t e =
+    record {
+      frames = search (or-left, or-right, ltb-false) depth 12;
+      nuclei = search (or-left, or-right, ltb-false) depth 12;
+      boundaries = search (or-left, or-right, ltb-false) depth 12;
+      anchors = search (or-left, or-right, ltb-false) depth 12;
+      added = search (or-left, or-right, ltb-false) depth 12;
+      columns = search (or-left, or-right, ltb-false) depth 12;
+      candidates = search (or-left, or-right, ltb-false) depth 12;
+      someColumn = search (or-left, or-right, not-zero) depth 12;
+      nothingAdded =
+          λ none.
+          let both : (eqb (t .anchors .count) 0 && ltb 0 (t .added .count)) ≡ false = search (or-left, or-right) in
+          let most : t .added .count ≤ 0 = ltb-false 0 (t .added .count) (and-right _ _ both (eq-eqb (t .anchors .count) 0 none)) in
+          omega arith;
+    }
+
+reaches : (end bytes back : ℕ) → outside end bytes back ≡ false → Reaches end bytes back
+reaches end bytes back e = record { long = search (or-left, or-right, ltb-false); inside = search (or-left, or-right, ltb-false) }
+
+pub reaching : (l : Limits) (end : ℕ) (t : Trailer) → overreaching l end t ≡ false → Reaching l end t
+unfolding overreaching
+reaching l end t e =
+    record {
+      mask = reaches _ _ _ (search (or-left, or-right) depth 12);
+      nuclei = reaches _ _ _ (search (or-left, or-right) depth 12);
+      boundaries = reaches _ _ _ (search (or-left, or-right) depth 12);
+      anchors = reaches _ _ _ (search (or-left, or-right) depth 12);
+      added = reaches _ _ _ (search (or-left, or-right) depth 12);
+      scores = reaches _ _ _ (search (or-left, or-right) depth 12);
+      candidates = reaches _ _ _ (search (or-left, or-right) depth 12);
+      costs = reaches _ _ _ (search (or-left, or-right) depth 12);
+    }
+
+pub inside : (l : Limits) (end : ℕ) (t : Trailer) → Reaching l end t → Inside end t
+inside l end t r =
+    record {
+      mask = r .mask .inside;
+      nuclei = r .nuclei .inside;
+      boundaries = r .boundaries .inside;
+      anchors = r .anchors .inside;
+      added = r .added .inside;
+      scores = r .scores .inside;
+      candidates = r .candidates .inside;
+      costs = r .costs .inside;
+    }
+
+-- a section that starts `back` bytes before `end` ends before it
+ends : {end bytes back : ℕ} → Reaches end bytes back → {long : ℕ} → end ≤ long → end - back + bytes ≤ long
+ends r fits = omega arith
+
+pub within-layout : (l : Limits) (end long : ℕ) (t : Trailer) → Reaching l end t → end ≤ long → Within long (layoutFrom end t)
+unfolding layoutFrom
+within-layout l end long t r fits =
+    record {
+      mask = ends (r .mask) fits;
+      nuclei = ends (r .nuclei) fits;
+      boundaries = ends (r .boundaries) fits;
+      anchors = ends (r .anchors) fits;
+      added = ends (r .added) fits;
+      scores = ends (r .scores) fits;
+      costs = ends (r .costs) fits;
+    }
+
+pub candidates-layout : (l : Limits) (end long : ℕ) (t : Trailer) → Moderate l → Reaching l end t → end ≤ long → CandidatesRead l long (layoutFrom end t)
+unfolding layoutFrom
+candidates-layout l end long t m r fits = record { section = ends (r .candidates) fits; entry = m .entry }
+
+pub moderate : Moderate edition1
+moderate =
+    record {
+      frames = lit≤ tt;
+      nuclei = lit≤ tt;
+      boundaries = lit≤ tt;
+      anchors = lit≤ tt;
+      columns = lit≤ tt;
+      candidates = lit≤ tt;
+      units = lit≤ tt;
+      «candidate_bytes» = lit≤ tt;
+      «entry_words» = lit≤ tt;
+      entry = lit≤ tt;
+    }

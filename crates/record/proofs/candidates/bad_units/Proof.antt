@@ -1,0 +1,12 @@
+use borrow.Author.Needs.{needs}
+use Rattle.record.proofs.candidates.bad_units.Statement.{statement}
+use Rattle.record.proofs.candidates.bad_units.Tie as tie
+
+units-at-requires : tie.Need-units-at-requires
+units-at-requires c κs = search needs
+
+returns : tie.Need-returns
+returns c = cc
+
+pub bad-units-spec : {M : Type 1} → statement M
+bad-units-spec = tie.close (tie.spec units-at-requires returns)

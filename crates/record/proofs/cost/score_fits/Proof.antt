@@ -1,0 +1,20 @@
+use Prim.Native.Nat.{ℕ}
+use mathlib.Core.Path.{ap, ap₂, _∙_}
+use lib.Ieee.{Float, binary32, ofBits, neg}
+use Rattle.ieee.specs.Range.{between, within}
+use Rattle.record.proofs.Figures.{million-32}
+use borrow.Author.Needs.{needs}
+use Rattle.record.proofs.cost.score_fits.Statement.{statement}
+use Rattle.record.proofs.cost.score_fits.Tie as tie
+
+u32-at-requires : tie.Need-u32-at-requires
+u32-at-requires c κs = search needs
+
+within32-requires : tie.Need-within32-requires
+within32-requires c κs = search needs
+
+returns : tie.Need-returns
+returns c = c .within32 .ensures .answer ∙ ap₂ (λ (l : Float) (p : ℕ). within l (ofBits binary32 p)) million-32 (c .before .u32-at .ensures)
+
+pub score-fits-spec : {M : Type 1} → statement M
+score-fits-spec = tie.close (tie.spec u32-at-requires within32-requires returns)

@@ -1,0 +1,11 @@
+use mathlib.Core.Path.{refl}
+use Rattle.record.specs.Conditions.{oversized}
+use Rattle.record.proofs.size.oversized.Statement.{statement}
+use Rattle.record.proofs.size.oversized.Tie as tie
+
+returns : tie.Need-returns
+unfolding oversized
+returns c = refl
+
+pub oversized-spec : {M : Type 1} → statement M
+oversized-spec = tie.close (tie.spec returns)

@@ -1,0 +1,74 @@
+-- The trailer's fields under names, the lengths of the sections, and where they start (document 01, "The phrase record").
+use Prim.Native.Nat.{ℕ, _+_, _-_, _*_}
+use mathlib.Core.List.{List}
+use lib.ListN.{length}
+use Rattle.record.specs.Bytes.{u32At}
+use Rattle.record.specs.declared.limits.Limits.{Limits}
+use Rattle.record.specs.declared.trailer.Mark.{Mark}
+use Rattle.record.specs.declared.trailer.Trailer.{Trailer}
+use Rattle.record.specs.declared.layout.Section.{Section}
+use Rattle.record.specs.declared.layout.Layout.{Layout}
+
+-- "The last 64 bytes are a trailer of sixteen u32": where it starts, which is also how many bytes stand before it.
+abbrev pub trailerBytes : ℕ
+trailerBytes = 64
+
+abbrev pub trailerStart : List ℕ → ℕ
+trailerStart bytes = length bytes - trailerBytes
+
+-- the trailer's word k, counted from 0
+abbrev pub word : List ℕ → ℕ → ℕ
+word bytes k = u32At bytes (trailerStart bytes + 4 * k)
+
+-- a count at word k and its back pointer behind it
+abbrev pub markAt : List ℕ → ℕ → Mark
+markAt bytes k = record { count = word bytes k; back = word bytes (k + 1) }
+
+-- "Trailer: edition; F, mask pointer; N, pointer to nuclei; B, to boundaries; A, to added-stage anchors; D, to added-stage boundaries;
+-- C, score pointer; M, candidate pointer; costs pointer."
+unfoldable pub trailerOf : List ℕ → Trailer
+trailerOf bytes =
+    record {
+      edition = word bytes 0;
+      mask = markAt bytes 1;
+      nuclei = markAt bytes 3;
+      boundaries = markAt bytes 5;
+      anchors = markAt bytes 7;
+      added = markAt bytes 9;
+      scores = markAt bytes 11;
+      candidates = markAt bytes 13;
+      costs = word bytes 15;
+    }
+
+-- "The four lists: u32 frames", and the bytes of a list of n
+abbrev pub listBytes : ℕ → ℕ
+listBytes n = 4 * n
+
+-- "Scores: f32, row by row, N + A rows of C columns"
+abbrev pub scoreBytes : ℕ → ℕ → ℕ → ℕ
+scoreBytes n a c = 4 * ((n + a) * c)
+
+-- "Costs, 1,228 bytes"
+abbrev pub costsBytes : ℕ
+costsBytes = 1228
+
+-- "A back pointer counts bytes from the trailer's start back to the section's first byte."
+abbrev pub placed : ℕ → Mark → Section
+placed end m = record { count = m .count; start = end - m .back }
+
+unfoldable pub layoutFrom : ℕ → Trailer → Layout
+layoutFrom end t =
+    record {
+      mask = placed end (t .mask);
+      nuclei = placed end (t .nuclei);
+      boundaries = placed end (t .boundaries);
+      anchors = placed end (t .anchors);
+      added = placed end (t .added);
+      scores = placed end (t .scores);
+      candidates = placed end (t .candidates);
+      costs = end - t .costs;
+    }
+
+unfoldable pub layoutOf : List ℕ → Layout
+unfolding layoutFrom trailerOf
+layoutOf bytes = layoutFrom (trailerStart bytes) (trailerOf bytes)

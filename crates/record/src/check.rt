@@ -1,0 +1,48 @@
+// The check of a record: refused by the first rule whose condition holds, or accepted with its layout.
+
+use crate::candidates::check_candidates;
+use crate::cost::bad_cost;
+use crate::layout::laid_out;
+use crate::limits::edition_1;
+use crate::refusal::Checked;
+use crate::refusal::Refusal;
+use crate::size::other_edition;
+use crate::size::overreaching;
+use crate::size::oversized;
+use crate::size::stub;
+use crate::track::bad_track;
+use crate::trailer::trailer_of;
+ghost use mathlib.Core.Path.{_≡_};
+ghost use Rattle.record.specs.Refusals.{checkedOf};
+
+// Refusals 1 to 10, which are the record's own.
+pub fn check(bytes: &[u8]) -> Checked
+    ensures { λ r. ⌜ r ≡ checkedOf (now (bytes .entry)) ⌝ }
+{
+    if stub(bytes) {
+        return Checked::Refused(Refusal::Stub);
+    }
+    let limits = edition_1();
+    let trailer = trailer_of(bytes);
+    if other_edition(limits, trailer) {
+        return Checked::Refused(Refusal::Edition);
+    }
+    if oversized(limits, trailer) {
+        return Checked::Refused(Refusal::Size);
+    }
+    let end = bytes.len() - 64;
+    if overreaching(limits, end, trailer) {
+        return Checked::Refused(Refusal::Reach);
+    }
+    let at = laid_out(end, trailer);
+    if bad_track(bytes, at) {
+        return Checked::Refused(Refusal::Track);
+    }
+    if bad_cost(bytes, at) {
+        return Checked::Refused(Refusal::Cost);
+    }
+    if at.candidates.count == 0 {
+        return Checked::Refused(Refusal::Bare);
+    }
+    check_candidates(bytes, limits, at)
+}
