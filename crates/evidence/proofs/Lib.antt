@@ -3,6 +3,9 @@ mod Walk
 mod Tail
 mod Nearest
 mod Words
+mod Sorting
+mod Gaps
+pub mod Sorted
 pub mod Neighbours
 pub mod Ascending
 pub mod Cuts

@@ -24,3 +24,13 @@ all-left xs i h = let first : i ≡ 0 = omega arith in ap (λ (n : ℕ). drop n 
 -- the end of a walk up
 pub none-left : (xs : List ℕ) (i : ℕ) → length xs ≤ i → drop i xs ≡ []
 none-left xs i h = drop-of-length-le xs h
+
+-- n in all, some of them counted and some ahead
+pub all-counted : (n counted ahead : ℕ) → n ≡ counted + ahead → ahead ≡ 0 → counted ≡ n
+all-counted n counted ahead e none = omega arith
+
+pub one-counted : (n counted ahead next : ℕ) → n ≡ counted + ahead → ahead ≡ suc next → n ≡ counted + 1 + next
+one-counted n counted ahead next e more = omega arith
+
+pub none-counted : (n counted ahead next : ℕ) → n ≡ counted + ahead → ahead ≡ next → n ≡ counted + next
+none-counted n counted ahead next e same = omega arith

@@ -5,3 +5,4 @@ pub mod Frames
 pub mod Joins
 pub mod CreakyTail
 pub mod Spans
+pub mod Rate
