@@ -14,7 +14,7 @@ use Rattle.ieee.specs.Value.{Within}
 use Rattle.phrase.specs.Phrase.{Phrase, Stage, Candidate, spoken}
 use Rattle.record.specs.Bytes.{byteAt, u32At, u64At}
 use Rattle.record.specs.Edition.{edition1}
-use Rattle.record.specs.Bounds.{Sized}
+use Rattle.record.specs.Bounds.{Sized, Counted}
 use Rattle.record.specs.Layout.{trailerOf, layoutFrom, layoutOf}
 use Rattle.record.specs.Conditions.{lastFrame, noFrame, badList, badMask, badEdges, badTrack, speechStart, speechEnd, thousand, million, shortest, longest, firstTable, secondTable, f32At, f64At, badScores, badFigures, badTable, badCost, idAt, unitsAt, columnAt, repeated, badColumn}
 use Rattle.record.specs.Refusals.{firstOf, ownRules, refusalOf}
@@ -30,18 +30,6 @@ use Rattle.record.proofs.Entries.{units-some, units-most}
 use Rattle.record.proofs.Passed.{Passed, none-holds}
 use Rattle.record.proofs.Fits.{frames-fit, score-fits, cost-fits, table-fits, edges-fit, score-place}
 
--- the counts, of the layout
-record Counted (l : Limits) (at : Layout) : Type 0 where
-  frames : at .mask .count ≤ l .frames
-  nuclei : at .nuclei .count ≤ l .nuclei
-  boundaries : at .boundaries .count ≤ l .boundaries
-  anchors : at .anchors .count ≤ l .anchors
-  added : at .added .count ≤ l .boundaries
-  columns : at .scores .count ≤ l .columns
-  candidates : at .candidates .count ≤ l .candidates
-  someColumn : 0 < at .scores .count
-  nothingAdded : at .anchors .count ≡ 0 → at .added .count ≡ 0
-
 counted : (l : Limits) (bytes : List ℕ) → Sized l (trailerOf bytes) → Counted l (layoutOf bytes)
 unfolding layoutOf layoutFrom
 counted l bytes s =
@@ -54,7 +42,7 @@ counted l bytes s =
       columns = s .columns;
       candidates = s .candidates;
       someColumn = s .someColumn;
-      nothingAdded = s .nothingAdded
+      nothingAdded = s .nothingAdded;
     }
 
 -- condition 5, part by part
@@ -75,7 +63,7 @@ tracked bytes at e =
       boundaries = search (or-left, or-right) depth 8;
       anchors = search (or-left, or-right) depth 8;
       added = search (or-left, or-right) depth 8;
-      speech = search (or-left, or-right) depth 8
+      speech = search (or-left, or-right) depth 8;
     }
 
 -- condition 6, part by part
@@ -96,7 +84,7 @@ priced bytes at e =
       insertion = search (or-left, or-right) depth 8;
       unvoiced = search (or-left, or-right) depth 8;
       first = search (or-left, or-right) depth 8;
-      second = search (or-left, or-right) depth 8
+      second = search (or-left, or-right) depth 8;
     }
 
 -- ---- from the parts to the phrase
@@ -107,7 +95,7 @@ stage-fit bytes anchors boundaries table row a b fa fb la lb =
       fewAnchors = subst (λ (n : ℕ). n ≤ a) (sym (length-listed _ (anchors .count))) la;
       fewBoundaries = subst (λ (n : ℕ). n ≤ b) (sym (length-listed _ (boundaries .count))) lb;
       anchors = frames-fit bytes anchors fa;
-      boundaries = frames-fit bytes boundaries fb
+      boundaries = frames-fit bytes boundaries fb;
     }
 
 module _ (l : Limits) (bytes : List ℕ) (p : Passed l bytes) where
@@ -119,8 +107,8 @@ module _ (l : Limits) (bytes : List ℕ) (p : Passed l bytes) where
         someUnit = subst (λ (n : ℕ). 0 < n) (sym long) (units-some l bytes (layoutOf bytes) i (q .units));
         fewUnits = subst (λ (n : ℕ). n ≤ l .units) (sym long) (units-most l bytes (layoutOf bytes) i (q .units));
         below = λ j m.
-          let inside = subst (λ (n : ℕ). j < n) long m in
-          subst (λ (n : ℕ). n < layoutOf bytes .scores .count) (sym (getD-listed (columnAt l bytes (layoutOf bytes) i) _ j 0 inside)) (leb-false _ _ (none-below _ _ (q .column) j inside))
+            let inside = subst (λ (n : ℕ). j < n) long m in
+            subst (λ (n : ℕ). n < layoutOf bytes .scores .count) (sym (getD-listed (columnAt l bytes (layoutOf bytes) i) _ j 0 inside)) (leb-false _ _ (none-below _ _ (q .column) j inside));
       }
 
   ids-differ : (i j : ℕ) → i < j → j < layoutOf bytes .candidates .count → idAt l bytes (layoutOf bytes) i ≡ idAt l bytes (layoutOf bytes) j → ⊥
@@ -140,8 +128,8 @@ module _ (l : Limits) (bytes : List ℕ) (p : Passed l bytes) where
       record {
         fewFrames = subst (λ (k : ℕ). k ≤ l .frames) (sym mask) (n .frames);
         mask = λ i below.
-          let inside = subst (λ (k : ℕ). i < k) mask below in
-          subst (λ (k : ℕ). k ≤ 1) (sym (getD-listed _ _ i 0 inside)) (ltb-false _ _ (none-below _ _ (t .mask) i inside));
+            let inside = subst (λ (k : ℕ). i < k) mask below in
+            subst (λ (k : ℕ). k ≤ 1) (sym (getD-listed _ _ i 0 inside)) (ltb-false _ _ (none-below _ _ (t .mask) i inside));
         nuclei = stage-fit bytes (at .nuclei) (at .boundaries) _ _ _ _ (t .nuclei) (t .boundaries) (n .nuclei) (n .boundaries);
         added = stage-fit bytes (at .anchors) (at .added) _ _ _ _ (t .anchors) (t .added) (n .anchors) (n .added);
         nothingAdded = λ none. length-listed _ (at .added .count) ∙ n .nothingAdded (sym anchors ∙ none);
@@ -149,29 +137,33 @@ module _ (l : Limits) (bytes : List ℕ) (p : Passed l bytes) where
         someColumn = n .someColumn;
         fewColumns = n .columns;
         scores = λ row column below inside.
-          let rows : row < at .nuclei .count + at .anchors .count = omega arith in
-          score-fits (u32At bytes (at .scores .start + 4 * (row * at .scores .count + column))) (none-below _ _ (r .scores) (row * at .scores .count + column) (score-place (at .nuclei .count + at .anchors .count) (at .scores .count) row column rows inside));
+            let rows : row < at .nuclei .count + at .anchors .count = omega arith in
+            score-fits (u32At bytes (at .scores .start + 4 * (row * at .scores .count + column))) (none-below _ _ (r .scores) (row * at .scores .count + column) (score-place (at .nuclei .count + at .anchors .count) (at .scores .count) row column rows inside));
         perFrame = cost-fits (u64At bytes (at .costs)) (r .perFrame);
         insertion = cost-fits (u64At bytes (at .costs + 8)) (r .insertion);
         unvoiced = score-fits (u32At bytes (at .costs + 16)) (r .unvoiced);
         durations = table-fits bytes (firstTable (at .costs)) (r .first);
         addedDurations = λ some.
-          table-fits bytes (secondTable (at .costs)) (and-right _ _ (r .second) (lt-ltb 0 (at .anchors .count) (omega arith)));
+            table-fits bytes (secondTable (at .costs)) (and-right _ _ (r .second) (lt-ltb 0 (at .anchors .count) (omega arith)));
         someCandidate = subst (λ (k : ℕ). 0 < k) (sym long) (not-zero _ (p .bare));
         fewCandidates = subst (λ (k : ℕ). k ≤ l .candidates) (sym long) (n .candidates);
         candidates = λ i other below.
-          let inside = subst (λ (k : ℕ). i < k) long below in
-          subst (CandidateFit (l .units) (at .scores .count)) (sym (getD-listed (candidateAt l bytes at) _ i other inside)) (candidate-fit i inside);
+            let inside = subst (λ (k : ℕ). i < k) long below in
+            subst (CandidateFit (l .units) (at .scores .count)) (sym (getD-listed (candidateAt l bytes at) _ i other inside)) (candidate-fit i inside);
         distinct = λ i j other before below e.
-          let inside = subst (λ (k : ℕ). j < k) long below in
-          let one = getD-listed (candidateAt l bytes at) _ i other (lt-trans before inside) in
-          let two = getD-listed (candidateAt l bytes at) _ j other inside in
-          ids-differ i j before inside (ap (λ (x : Candidate). x .id) (sym one) ∙ e ∙ ap (λ (x : Candidate). x .id) two)
+            let inside = subst (λ (k : ℕ). j < k) long below in
+            let one = getD-listed (candidateAt l bytes at) _ i other (lt-trans before inside) in
+            let two = getD-listed (candidateAt l bytes at) _ j other inside in
+            ids-differ i j before inside (ap (λ (x : Candidate). x .id) (sym one) ∙ e ∙ ap (λ (x : Candidate). x .id) two);
       }
 
 pub laid-passed : {bytes : List ℕ} {at : Layout} → Laid bytes at → Passed edition1 bytes
 unfolding refusalOf
 laid-passed {bytes} h = none-holds edition1 bytes (h .accepted)
+
+-- the counts of an accepted record are within their limits
+pub counts : {bytes : List ℕ} {at : Layout} → Laid bytes at → Counted edition1 at
+counts {bytes} h = subst⁻¹ (Counted edition1) (h .layout) (counted edition1 bytes (sized edition1 (trailerOf bytes) (laid-passed h .size)))
 
 -- the law for those above: an accepted record's phrase fits
 pub fit : {bytes : List ℕ} {at : Layout} → Laid bytes at → Fit edition1 (at .scores .count) (phraseOf bytes)

@@ -51,11 +51,11 @@ module _ (bytes : List ℕ) (s : Section) (fine : badList bytes s ≡ false) whe
       let at : (i : ℕ) → i < length (framesAt bytes s) → frameAt bytes s i ≡ getD (framesAt bytes s) i 0 = λ i l. sym (getD-listed (frameAt bytes s) (s .count) i 0 (subst (λ (n : ℕ). i < n) long l)) in
       record {
         rising = λ i j l m.
-          let up : frameAt bytes s i < frameAt bytes s j = rises (frameAt bytes s) (s .count - 1) (λ k below. leb-false _ _ (none-below _ (s .count - 1) ordered k below)) i j l (omega arith) in
-          omega (arith, at i (lt-trans l m), at j m);
+            let up : frameAt bytes s i < frameAt bytes s j = rises (frameAt bytes s) (s .count - 1) (λ k below. leb-false _ _ (none-below _ (s .count - 1) ordered k below)) i j l (omega arith) in
+            omega (arith, at i (lt-trans l m), at j m);
         last = λ i l.
-          let most : frameAt bytes s i ≤ lastFrame = ltb-false _ _ (none-below _ (s .count) late-false i (subst (λ (n : ℕ). i < n) long l)) in
-          omega (arith, at i l)
+            let most : frameAt bytes s i ≤ lastFrame = ltb-false _ _ (none-below _ (s .count) late-false i (subst (λ (n : ℕ). i < n) long l)) in
+            omega (arith, at i l);
       }
 
 -- ---- figures

@@ -8,5 +8,6 @@ pub mod Chain
 pub mod Passed
 pub mod Fits
 pub mod Accepted
+pub mod Answers
 pub mod Figures
 pub mod SamplePhrase

@@ -64,7 +64,7 @@ module _ (l : Limits) (bytes : List ℕ) (i n : ℕ) (e : firstOf (candidateRule
       record {
         twice = fails (repeated l bytes (layoutOf bytes) i) _ _ e;
         units = fails (badUnits l bytes (layoutOf bytes) i) _ _ past-twice;
-        column = fails (badColumn l bytes (layoutOf bytes) i) _ _ past-units
+        column = fails (badColumn l bytes (layoutOf bytes) i) _ _ past-units;
       }
 
 candidates-passed : (l : Limits) (bytes : List ℕ) (i n : ℕ) → firstOf (candidateRules l i n) bytes ≡ none → (k : ℕ) → i ≤ k → k < i + n → CandidatePassed l bytes k
@@ -92,5 +92,5 @@ none-holds l bytes e =
       track = fails (badTrack bytes (layoutOf bytes)) _ _ five;
       cost = fails (badCost bytes (layoutOf bytes)) _ _ six;
       bare = fails (bare (layoutOf bytes)) _ _ seven;
-      candidate = λ i below. candidates-passed l bytes 0 (layoutOf bytes .candidates .count) eight i zero-le (omega arith)
+      candidate = λ i below. candidates-passed l bytes 0 (layoutOf bytes .candidates .count) eight i zero-le (omega arith);
     }

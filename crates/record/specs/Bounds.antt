@@ -19,6 +19,18 @@ pub record Sized (l : Limits) (t : Trailer) : Type 0 where
   pub someColumn : 0 < t .scores .count
   pub nothingAdded : t .anchors .count ≡ 0 → t .added .count ≡ 0
 
+-- the same of a layout, whose counts are the trailer's
+pub record Counted (l : Limits) (at : Layout) : Type 0 where
+  pub frames : at .mask .count ≤ l .frames
+  pub nuclei : at .nuclei .count ≤ l .nuclei
+  pub boundaries : at .boundaries .count ≤ l .boundaries
+  pub anchors : at .anchors .count ≤ l .anchors
+  pub added : at .added .count ≤ l .boundaries
+  pub columns : at .scores .count ≤ l .columns
+  pub candidates : at .candidates .count ≤ l .candidates
+  pub someColumn : 0 < at .scores .count
+  pub nothingAdded : at .anchors .count ≡ 0 → at .added .count ≡ 0
+
 -- a section of so many bytes lies between the record's start and the trailer's
 pub record Reaches (end bytes back : ℕ) : Type 0 where
   pub long : bytes ≤ back

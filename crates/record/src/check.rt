@@ -3,6 +3,7 @@
 use crate::candidates::check_candidates;
 use crate::cost::bad_cost;
 use crate::layout::laid_out;
+use crate::limits::Limits;
 use crate::limits::edition_1;
 use crate::refusal::Checked;
 use crate::refusal::Refusal;
@@ -13,7 +14,10 @@ use crate::size::stub;
 use crate::track::bad_track;
 use crate::trailer::trailer_of;
 ghost use mathlib.Core.Path.{_≡_};
-ghost use Rattle.record.specs.Refusals.{checkedOf};
+ghost use Prim.Native.Nat.{_≤_};
+ghost use Rattle.record.specs.Edition.{Moderate};
+ghost use Rattle.record.specs.Conditions.{shortDesk};
+ghost use Rattle.record.specs.Refusals.{checkedOf, checkedWith};
 
 // Refusals 1 to 10, which are the record's own.
 pub fn check(bytes: &[u8]) -> Checked
@@ -45,4 +49,31 @@ pub fn check(bytes: &[u8]) -> Checked
         return Checked::Refused(Refusal::Bare);
     }
     check_candidates(bytes, limits, at)
+}
+
+fn short_desk(limits: Limits, candidates: usize, best: usize, back: usize, out: usize) -> bool
+    requires { ⌜ Moderate limits ⌝ }
+    requires { ⌜ candidates ≤ limits .candidates ⌝ }
+    ensures { λ r. ⌜ r ≡ shortDesk limits candidates best back out ⌝ }
+{
+    (best < limits.work_cells)
+        | (back < limits.work_cells)
+        | (out < candidates * limits.entry_words)
+}
+
+// Refusal 11 on top, for a call that lends work areas of `best` and `back` cells and an output of `out` words.
+pub fn check_areas(bytes: &[u8], best: usize, back: usize, out: usize) -> Checked
+    ensures { λ r. ⌜ r ≡ checkedWith (now (bytes .entry)) best back out ⌝ }
+{
+    let checked = check(bytes);
+    match checked {
+        Checked::Refused(refusal) => Checked::Refused(refusal),
+        Checked::Accepted(at) => {
+            if short_desk(edition_1(), at.candidates.count, best, back, out) {
+                Checked::Refused(Refusal::Desk)
+            } else {
+                Checked::Accepted(at)
+            }
+        }
+    }
 }
