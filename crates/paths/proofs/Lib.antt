@@ -20,3 +20,4 @@ pub mod Demanded
 pub mod Finite
 pub mod PhraseFigures
 pub mod Answers
+pub mod PhraseExamples
