@@ -4,7 +4,7 @@ use mathlib.Core.Path.{_≡_, refl, sym, ap, ap₂, _∙_}
 use mathlib.Core.Bool.{Bool, true, false, cond, _&&_}
 use mathlib.Core.List.{List, [], _∷_}
 use Prim.Native.Nat.{ℕ, suc, _+_, _≤_, _<_, min}
-use native.Mathlib.Nat.{le-refl, zero-add}
+use native.Mathlib.Nat.{le-refl, le-of-eq, le-trans, zero-add}
 use native.Mathlib.Omega.{arith}
 use lib.Dec.{T, leb, ltb, leb→le, le→leb, ltb→lt, lt→ltb, nltb→le}
 use lib.ListN.{length}
@@ -93,13 +93,13 @@ numbered-length row (frame ∷ frames) = ap suc (numbered-length (suc row) frame
 pub keptIn-le : (mask : List ℕ) (row : ℕ) (frames : List ℕ) → length (keptIn mask row frames) ≤ length frames
 unfolding keptIn
 keptIn-le mask row frames =
-    omega (arith, select-le (λ anchor. within mask (anchor .frame)) (numbered row frames), numbered-length row frames)
+    le-trans (select-le _ (numbered row frames)) (le-of-eq (numbered-length row frames))
 
 -- ---- `heldIn`
 
 pub heldIn-le : (anchors : List Anchor) (from to : ℕ) → length (heldIn anchors from to) ≤ length anchors
 unfolding heldIn
-heldIn-le anchors from to = select-le (λ anchor. leb from (anchor .frame) && ltb (anchor .frame) to) anchors
+heldIn-le anchors from to = select-le _ anchors
 
 -- a later end
 pub heldIn-more : (anchors : List Anchor) (from : ℕ) {to further : ℕ} → to ≤ further → length (heldIn anchors from to) ≤ length (heldIn anchors from further)

@@ -3,24 +3,25 @@ use mathlib.Core.Path.{_≡_, refl}
 use mathlib.Core.Bool.{Bool, true, false, cond}
 use mathlib.Core.List.{List, [], _∷_}
 use Prim.Native.Nat.{ℕ}
-use native.Mathlib.Omega.{arith}
 use lib.Dec.{T, lit≤}
 use lib.ListN.{length}
-use lib.Ieee.{binary64}
-use Rattle.ieee.specs.Value.{Real}
 use Rattle.phrase.specs.Phrase.{Phrase}
 use Rattle.paths.specs.declared.passes.Strictness.the-variants.{Strict, Relaxed}
 use Rattle.paths.specs.declared.passes.Pass.{Pass}
 use Rattle.paths.specs.declared.passes.Pass.the-variants.{NucleiStrict, CountStrict, CountRelaxed, NucleiRelaxed}
 use Rattle.paths.specs.Problem.{Problem}
-use Rattle.paths.specs.Path.{Path, Admitted, sum}
+use Rattle.paths.specs.Path.{Path}
+use Rattle.paths.specs.Cell.{Cell, empty, held}
 use Rattle.paths.specs.CellRule.{chosenPath}
 use Rattle.paths.specs.Passes.{passProblem, nonEmpty, inOrder}
 use Rattle.paths.specs.Demand.{Answer, FirstOf, here, after, Each, all-done, each-of, Demanded}
 use Rattle.paths.specs.Search.{chosen}
+use Rattle.paths.specs.Finite.{Finite}
 use Rattle.paths.specs.Bounded.{Figures, Bounds, fillerBound, stepBound, Room, PhraseBounded, documentBounds}
-use Rattle.paths.proofs.Demanded.{Picked, Sound, search-demanded, Alike, one-answer}
-use Rattle.paths.proofs.Finite.{sum-within}
+use Rattle.paths.proofs.Demanded.{Picked, picked, nothing, search-demanded, Alike, one-answer}
+use Rattle.paths.proofs.Finite.{finite}
+use Rattle.paths.proofs.Chosen.{none-chosen}
+use Rattle.paths.proofs.Optimal.{chosen-best}
 use Rattle.paths.proofs.PhraseFigures.{phrase-figures}
 
 each-map : {P Q : Pass → Type 0} {order : List Pass} → ((pass : Pass) → P pass → Q pass) → Each P order → Each Q order
@@ -34,23 +35,33 @@ first-each (each-of p others) (after missing first) = first-each others first
 pub document-room : Room documentBounds
 document-room = record { frames = lit≤ tt; nuclei = lit≤ tt; sums = lit≤ tt }
 
-module _ (sound : (q : Problem) (edge step : ℕ) → Figures q edge step → (k : ℕ) → Picked q k (chosenPath q k)) where
-  module _ {most : Bounds} {phrase : Phrase} {columns : List ℕ} (room : Room most) (bounded : PhraseBounded most phrase columns) where
-    abbrev PassFigures : Pass → Type 0
-    PassFigures pass = Figures (passProblem phrase pass columns) (fillerBound most) (stepBound most)
+-- the cell rule picks a best path, or nothing where no path is admitted
+rule-picks : (q : Problem) (k : ℕ) → Finite q k → Picked q k (chosenPath q k)
+rule-picks q k finite = go (chosenPath q k) refl
+  where
+    go : (cell : Cell Path) → chosenPath q k ≡ cell → Picked q k cell
+    go empty e = nothing (none-chosen q k e)
+    go (held path) e = picked (chosen-best q k finite path e)
 
-    figures : Each PassFigures (inOrder phrase)
-    figures = each-of (phrase-figures room (bounded .nuclei) Strict) (go (nonEmpty (phrase .added .anchors)) (λ t. t))
-      where
-        go : (b : Bool) → (T b → T (nonEmpty (phrase .added .anchors))) → Each PassFigures (cond b (CountStrict ∷ CountRelaxed ∷ []) (NucleiRelaxed ∷ []))
-        go true exists =
-            each-of (phrase-figures room (bounded .added (exists tt)) Strict) (each-of (phrase-figures room (bounded .added (exists tt)) Relaxed) all-done)
-        go false exists = each-of (phrase-figures room (bounded .nuclei) Relaxed) all-done
+module _ {most : Bounds} {phrase : Phrase} {columns : List ℕ} (room : Room most) (bounded : PhraseBounded most phrase columns) where
+  abbrev PassFigures : Pass → Type 0
+  PassFigures pass = Figures (passProblem phrase pass columns) (fillerBound most) (stepBound most)
 
-    pub chosen-demanded : Demanded phrase columns (chosen phrase columns)
-    unfolding chosen
-    chosen-demanded = search-demanded chosenPath phrase columns (each-map (λ pass f. sound (passProblem phrase pass columns) (fillerBound most) (stepBound most) f (length columns)) figures)
+  figures : Each PassFigures (inOrder phrase)
+  figures = each-of (phrase-figures room (bounded .nuclei) Strict) (go (nonEmpty (phrase .added .anchors)) (λ t. t))
+    where
+      go : (b : Bool) → (T b → T (nonEmpty (phrase .added .anchors))) → Each PassFigures (cond b (CountStrict ∷ CountRelaxed ∷ []) (NucleiRelaxed ∷ []))
+      go true exists =
+          each-of (phrase-figures room (bounded .added (exists tt)) Strict) (each-of (phrase-figures room (bounded .added (exists tt)) Relaxed) all-done)
+      go false exists = each-of (phrase-figures room (bounded .nuclei) Relaxed) all-done
 
-    -- and no other, up to which best path stands and the sign of a zero
-    pub only-answer : {answer : Answer} → Demanded phrase columns answer → Alike answer (chosen phrase columns)
-    only-answer d = one-answer phrase columns (λ pass first path a. sum-within (first-each figures first) a .real) d chosen-demanded
+  -- the answer by the cell rule is as demanded
+  pub chosen-demanded : Demanded phrase columns (chosen phrase columns)
+  unfolding chosen
+  chosen-demanded =
+      search-demanded chosenPath phrase columns
+      (each-map (λ pass f. rule-picks (passProblem phrase pass columns) (length columns) (finite f (length columns))) figures)
+
+  -- and every answer that is as demanded is that one, up to which best path stands and the sign of a zero
+  pub only-answer : {answer : Answer} → Demanded phrase columns answer → Alike answer (chosen phrase columns)
+  only-answer d = one-answer phrase columns (λ pass first. finite (first-each figures first) (length columns)) d chosen-demanded

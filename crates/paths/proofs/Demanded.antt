@@ -1,24 +1,68 @@
--- Demand 3: a search that picks a best path wherever a pass admits one meets it, and it leaves one answer, up to which of several
--- best paths stands and to the sign of a zero. Assumes nothing.
+-- Demand 3 leaves one answer, up to which of several best paths stands and to the sign of a zero, and a search that picks a best
+-- path wherever a pass admits one meets it. Assumes nothing.
 use mathlib.Core.Path.{_≡_, refl, sym, subst, subst₂}
-use mathlib.Core.Logic.{_⊎_, inl, inr}
 use mathlib.Core.Bool.{Bool, true, false, not, cond, _&&_}
 use mathlib.Core.List.{List, [], _∷_}
 use Prim.Native.Nat.{ℕ}
 use lib.Dec.{T, T-not}
 use lib.ListN.{length}
-use lib.Ieee.{Float, binary64, eq}
+use lib.Ieee.{Float, eq}
 use Rattle.phrase.specs.Phrase.{Phrase}
-use Rattle.ieee.specs.Value.{Real}
-use Rattle.ieee.proofs.Order.{le-antisym}
 use Rattle.paths.specs.declared.passes.Pass.{Pass}
 use Rattle.paths.specs.Problem.{Problem}
-use Rattle.paths.specs.Path.{Path, count, Admitted, sum, Best, NoPath}
+use Rattle.paths.specs.Path.{Path, sum, Best, NoPath}
 use Rattle.paths.specs.Cell.{Cell, empty, held}
 use Rattle.paths.specs.Passes.{passProblem, speaks, hasNucleus, inOrder, passes}
 use Rattle.paths.specs.Demand.{Answer, found, none, unvoiced, Admits, AdmitsNone, FirstOf, here, after, Each, all-done, each-of, Found, Demanded, a-path, no-path, no-nucleus}
 use Rattle.paths.specs.Search.{Rule, orElse, searchBy}
-use Rattle.paths.proofs.Tests.{by-test, both, left-half, right-half}
+use Rattle.paths.specs.Finite.{Finite}
+use Rattle.paths.proofs.Optimal.{best-sums-equal}
+use Rattle.paths.proofs.Tests.{both, left-half, right-half}
+
+-- ---- the demand leaves one answer
+
+-- the same pass and, as numbers, the same sum; or the same word
+pub data Alike : Answer → Answer → Type 0 where
+  paths-alike : {pass : Pass} {path other : Path} {total otherTotal : Float} → T (eq total otherTotal) → Alike (found pass path total) (found pass other otherTotal)
+  none-alike : Alike none none
+  unvoiced-alike : Alike unvoiced unvoiced
+
+module _ (phrase : Phrase) (columns : List ℕ) where
+  conflict : (pass : Pass) → AdmitsNone phrase columns pass → Admits phrase columns pass → ⊥
+  unfolding NoPath
+  conflict pass missing path = missing (path .0) (path .1) (path .2)
+
+  first-same : {order : List Pass} {pass other : Pass} → FirstOf phrase columns pass order → FirstOf phrase columns other order → pass ≡ other
+  first-same (here a) (here b) = refl
+  first-same {pass = pass} (here a) (after missing first) = absurd (conflict pass missing a)
+  first-same {other = other} (after missing first) (here a) = absurd (conflict other missing a)
+  first-same (after missing first) (after missed later) = first-same first later
+
+  none-first : {order : List Pass} {pass : Pass} → Each (AdmitsNone phrase columns) order → FirstOf phrase columns pass order → ⊥
+  none-first {pass = pass} (each-of missing others) (here a) = conflict pass missing a
+  none-first (each-of missing others) (after missed first) = none-first others first
+
+  -- the paths of the pass named have finite sums
+  module _ (finite : (pass : Pass) → FirstOf phrase columns pass (inOrder phrase) → Finite (passProblem phrase pass columns) (length columns)) where
+    same-sum : {pass : Pass} {path other : Path} {total otherTotal : Float} → Found phrase columns pass path total → Found phrase columns pass other otherTotal
+        → T (eq total otherTotal)
+    same-sum {pass} f g =
+        subst₂ (λ (x y : Float). T (eq x y)) (sym (f .summed)) (sym (g .summed))
+        (best-sums-equal (passProblem phrase pass columns) (length columns) (finite pass (f .first)) (f .best) (g .best))
+
+    pub one-answer : {answer other : Answer} → Demanded phrase columns answer → Demanded phrase columns other → Alike answer other
+    one-answer (a-path {pass = pass} {path = path} {total = total} f) (a-path {path = other} {total = otherTotal} g) =
+        let same = first-same (f .first) (g .first) in
+        subst (λ (p : Pass). Alike (found pass path total) (found p other otherTotal)) same
+        (paths-alike (same-sum f (subst (λ (p : Pass). Found phrase columns p other otherTotal) (sym same) g)))
+    one-answer (a-path f) (no-path nucleus missing) = absurd (none-first (missing (f .speech)) (f .first))
+    one-answer (a-path f) (no-nucleus lacking) = absurd (T-not (hasNucleus phrase) lacking (f .nucleus))
+    one-answer (no-path nucleus missing) (a-path f) = absurd (none-first (missing (f .speech)) (f .first))
+    one-answer (no-path nucleus missing) (no-path present others) = none-alike
+    one-answer (no-path nucleus missing) (no-nucleus lacking) = absurd (T-not (hasNucleus phrase) lacking nucleus)
+    one-answer (no-nucleus lacking) (a-path f) = absurd (T-not (hasNucleus phrase) lacking (f .nucleus))
+    one-answer (no-nucleus lacking) (no-path nucleus missing) = absurd (T-not (hasNucleus phrase) lacking nucleus)
+    one-answer (no-nucleus lacking) (no-nucleus absent) = unvoiced-alike
 
 -- ---- a search meets the demand
 
@@ -81,50 +125,3 @@ module _ (rule : Rule) (phrase : Phrase) (columns : List ℕ) where
           → Demanded phrase columns (searchBy rule phrase columns (cond b (inOrder phrase) []))
       go true t back = all-searched (t tt) (walked sound)
       go false t back = word (λ nucleus speech. absurd (back (both (speaks (phrase .speech)) (hasNucleus phrase) speech nucleus)))
-
--- ---- the demand leaves one answer
-
--- the same pass and, as numbers, the same sum; or the same word
-pub data Alike : Answer → Answer → Type 0 where
-  paths-alike : {pass : Pass} {path other : Path} {total otherTotal : Float} → T (eq total otherTotal) → Alike (found pass path total) (found pass other otherTotal)
-  none-alike : Alike none none
-  unvoiced-alike : Alike unvoiced unvoiced
-
-module _ (phrase : Phrase) (columns : List ℕ) where
-  conflict : (pass : Pass) → AdmitsNone phrase columns pass → Admits phrase columns pass → ⊥
-  unfolding NoPath
-  conflict pass missing path = missing (path .0) (path .1) (path .2)
-
-  first-same : {order : List Pass} {pass other : Pass} → FirstOf phrase columns pass order → FirstOf phrase columns other order → pass ≡ other
-  first-same (here a) (here b) = refl
-  first-same {pass = pass} (here a) (after missing first) = absurd (conflict pass missing a)
-  first-same {other = other} (after missing first) (here a) = absurd (conflict other missing a)
-  first-same (after missing first) (after missed later) = first-same first later
-
-  none-first : {order : List Pass} {pass : Pass} → Each (AdmitsNone phrase columns) order → FirstOf phrase columns pass order → ⊥
-  none-first {pass = pass} (each-of missing others) (here a) = conflict pass missing a
-  none-first (each-of missing others) (after missed first) = none-first others first
-
-  -- the sums of the paths of the pass named are finite
-  module _ (finite : (pass : Pass) → FirstOf phrase columns pass (inOrder phrase) → (path : Path) → Admitted (passProblem phrase pass columns) path
-      → Real binary64 (sum (passProblem phrase pass columns) path)) where
-    same-sum : {pass : Pass} {path other : Path} {total otherTotal : Float} → Found phrase columns pass path total → Found phrase columns pass other otherTotal
-        → T (eq total otherTotal)
-    same-sum {pass} {path} {other} f g =
-        subst₂ (λ (x y : Float). T (eq x y)) (sym (f .summed)) (sym (g .summed))
-        (le-antisym (finite pass (f .first) path (f .best .admitted)) (finite pass (f .first) other (g .best .admitted))
-        (g .best .largest path (f .best .admitted) (f .best .counted)) (f .best .largest other (g .best .admitted) (g .best .counted)))
-
-    pub one-answer : {answer other : Answer} → Demanded phrase columns answer → Demanded phrase columns other → Alike answer other
-    one-answer (a-path {pass = pass} {path = path} {total = total} f) (a-path {path = other} {total = otherTotal} g) =
-        let same = first-same (f .first) (g .first) in
-        subst (λ (p : Pass). Alike (found pass path total) (found p other otherTotal)) same
-        (paths-alike (same-sum f (subst (λ (p : Pass). Found phrase columns p other otherTotal) (sym same) g)))
-    one-answer (a-path f) (no-path nucleus missing) = absurd (none-first (missing (f .speech)) (f .first))
-    one-answer (a-path f) (no-nucleus lacking) = absurd (T-not (hasNucleus phrase) lacking (f .nucleus))
-    one-answer (no-path nucleus missing) (a-path f) = absurd (none-first (missing (f .speech)) (f .first))
-    one-answer (no-path nucleus missing) (no-path present others) = none-alike
-    one-answer (no-path nucleus missing) (no-nucleus lacking) = absurd (T-not (hasNucleus phrase) lacking nucleus)
-    one-answer (no-nucleus lacking) (a-path f) = absurd (T-not (hasNucleus phrase) lacking (f .nucleus))
-    one-answer (no-nucleus lacking) (no-path nucleus missing) = absurd (T-not (hasNucleus phrase) lacking nucleus)
-    one-answer (no-nucleus lacking) (no-nucleus absent) = unvoiced-alike

@@ -9,9 +9,10 @@ use Rattle.ieee.proofs.Magnitude.{add-within, sub-within, weaken}
 use Rattle.paths.specs.Problem.{Problem}
 use Rattle.paths.specs.Path.{Path, begin, gap, unit, end, Admitted, begins, gaps, units, value, sum}
 use Rattle.paths.specs.Bounded.{Figures}
+use Rattle.paths.specs.Finite.{Finite}
 
 -- an admitted path stands at one of the boundaries
-pub end-below : {q : Problem} {p : Path} → Admitted q p → end p < q .size
+end-below : {q : Problem} {p : Path} → Admitted q p → end p < q .size
 unfolding end
 end-below (begins h) = h
 end-below (gaps a h) = h
@@ -22,7 +23,7 @@ module _ {q : Problem} {edge step : ℕ} (figures : Figures q edge step) where
   room-to : (j : ℕ) → j ≤ q .size → edge + j * step ≤ 2 ^ prec binary64
   room-to j h = omega (arith, figures .room, mul-le-mul-right step h)
 
-  pub value-within : {p : Path} → Admitted q p → Within binary64 (value q p) (edge + end p * step)
+  value-within : {p : Path} → Admitted q p → Within binary64 (value q p) (edge + end p * step)
   unfolding value end
   value-within (begins {j = j} h) = weaken (edge + j * step) (omega arith) (figures .starts j h)
   value-within (gaps {p = p} a h) =
@@ -33,8 +34,17 @@ module _ {q : Problem} {edge step : ℕ} (figures : Figures q edge step) where
       (add-within (value-within a) (figures .units _ (end p) j h k ok)
       (omega (arith, suc-mul (end p) step, mul-le-mul-right step h, room-to j (omega arith))))
 
-  pub sum-within : {p : Path} → Admitted q p → Within binary64 (sum q p) (edge + end p * step + edge)
+  sum-within : {p : Path} → Admitted q p → Within binary64 (sum q p) (edge + end p * step + edge)
   unfolding sum
   sum-within {p} a =
       sub-within (value-within a) (figures .stops (end p) (end-below a))
       (omega (arith, figures .room, mul-le-mul-right {m = end p} {n = q .size} step (omega (arith, end-below a))))
+
+  pub finite : (k : ℕ) → Finite q k
+  finite k = record {
+    gapCosts = λ j h. figures .gaps j h .real;
+    unitValues = λ s i j below h l ok. figures .units s i j h l ok .real;
+    stopCosts = λ j h. figures .stops j h .real;
+    values = λ p a most. value-within a .real;
+    sums = λ p a most. sum-within a .real;
+  }

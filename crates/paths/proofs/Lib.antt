@@ -21,3 +21,4 @@ pub mod Demanded
 pub mod Finite
 pub mod PhraseFigures
 pub mod Answers
+pub mod PhraseExamples
