@@ -1,0 +1,2 @@
+-- What is proved of cells and rows.
+pub mod Cells

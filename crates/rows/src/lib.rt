@@ -1,0 +1,6 @@
+// The rows of the search on the two work areas, after `best_path` of closed.rs: its cells, how each row is filled,
+// the end, and the way back through the marks.
+
+pub mod gaps;
+pub mod starts;
+pub mod way;
