@@ -1,11 +1,11 @@
 -- What the two numbers of a cell stand for, and what a way that is offered to it makes of that. Assumes nothing.
-use mathlib.Core.Bool.{Bool, true, false, cond}
+use mathlib.Core.Bool.{Bool, true, false, cond, not}
 use mathlib.Core.Logic.{_≢_}
 use mathlib.Core.List.{List}
 use mathlib.Core.Path.{_≡_, refl, sym, ap, subst, _∙_}
-use Prim.Native.Nat.{ℕ, suc, _+_, _<_}
+use Prim.Native.Nat.{ℕ, suc, _+_, _≤_, _<_}
 use native.Mathlib.Omega.{arith}
-use lib.Dec.{eqb}
+use lib.Dec.{T, eqb, ltb, ltb→lt, nltb→le}
 use lib.Ieee.{Float, lt, nan}
 use lib.ListN.{length, getD, set}
 use lib.Seq.{getD-set-same, getD-set-other}
@@ -16,6 +16,13 @@ use Rattle.rows.specs.declared.way.Way.{Way}
 use Rattle.rows.specs.declared.way.Way.the-variants.{Start, Gap, Unit}
 use Rattle.rows.specs.Ways.{wayValue, wayMark, markedBy, replaces, offered, Offered}
 use Rattle.rows.specs.Rows.{Holds, unreached, reached, HoldsAt, Same}
+
+pub by-order {ℓ} : {X : Type ℓ} (m n : ℕ) → (m < n → X) → (n ≤ m → X) → X
+by-order {X = X} m n below above = go (ltb m n) (ltb→lt m n) (nltb→le m n)
+  where
+    go : (b : Bool) → (T b → m < n) → (T (not b) → n ≤ m) → X
+    go true lt ge = below (lt tt)
+    go false lt ge = above (ge tt)
 
 -- how two cells compare
 abbrev pub higher : Marked → Marked → Bool
@@ -41,6 +48,9 @@ holds-held (reached h) e = refl
 
 pub same-refl : (b : List Float) (m : List ℕ) (at : ℕ) → Same b m b m at
 same-refl b m at = record { value = refl; mark = refl }
+
+pub same-sym : {b₀ b₁ : List Float} {m₀ m₁ : List ℕ} {at : ℕ} → Same b₀ m₀ b₁ m₁ at → Same b₁ m₁ b₀ m₀ at
+same-sym s = record { value = sym (s .value); mark = sym (s .mark) }
 
 pub same-trans :
     {b₀ b₁ b₂ : List Float} {m₀ m₁ m₂ : List ℕ} {at : ℕ} → Same b₀ m₀ b₁ m₁ at → Same b₁ m₁ b₂ m₂ at → Same b₀ m₀ b₂ m₂ at

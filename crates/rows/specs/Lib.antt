@@ -2,3 +2,4 @@
 -- the problem that the tables of a stage give.
 pub mod Ways
 pub mod Rows
+pub mod Units

@@ -3,4 +3,5 @@
 
 pub mod gaps;
 pub mod starts;
+pub mod units;
 pub mod way;
