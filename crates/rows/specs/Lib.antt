@@ -3,3 +3,5 @@
 pub mod Ways
 pub mod Rows
 pub mod Units
+pub mod Ends
+pub mod Traced
