@@ -1,0 +1,60 @@
+-- The cells of the two work areas, rows of them, and what each step of the search does to them.
+use Prim.Native.Nat.{ℕ, suc, _+_, _≤_, _<_}
+use mathlib.Core.Path.{_≡_}
+use mathlib.Core.List.{List}
+use lib.ListN.{getD}
+use lib.Ieee.{Float, binary64, nan, ofBits}
+use Rattle.paths.specs.Problem.{Problem}
+use Rattle.paths.specs.Cell.{Cell, empty, held}
+use Rattle.paths.specs.CellRule.{sweep}
+use Rattle.paths.specs.Marks.{Marked, marks}
+
+-- What the two numbers of a cell stand for: both are 0 where nothing reached it.
+pub data Holds : Float → ℕ → Cell Marked → Type 0 where
+  unreached : Holds (ofBits binary64 0) 0 empty
+  reached : {value : Float} {mark : ℕ} → 0 < mark → Holds value mark (held (record { value = value; mark = mark }))
+
+abbrev pub HoldsAt : List Float → List ℕ → ℕ → Cell Marked → Type 0
+HoldsAt best back at cell = Holds (getD best at nan) (getD back at 0) cell
+
+-- The cells of a row, by the place of each boundary's cell.
+abbrev pub Row : List Float → List ℕ → (ℕ → ℕ) → ℕ → (ℕ → Cell Marked) → Type 0
+Row best back place n cells = (j : ℕ) → j < n → HoldsAt best back (place j) (cells j)
+
+-- the first n cells, and the next n
+abbrev pub first : ℕ → ℕ
+first j = j
+
+abbrev pub next : ℕ → ℕ → ℕ
+next n j = n + j
+
+-- a row that nothing reached
+abbrev pub unfilled : ℕ → Cell Marked
+unfilled j = empty
+
+-- the first n cells are those of a row, whichever
+abbrev pub SomeRow : List Float → List ℕ → ℕ → Type 0
+SomeRow best back n = (cells : ℕ → Cell Marked) × Row best back first n cells
+
+-- A cell is as it was.
+pub record Same (best : List Float) (back : List ℕ) (best′ : List Float) (back′ : List ℕ) (at : ℕ) : Type 0 where
+  pub value : getD best′ at nan ≡ getD best at nan
+  pub mark : getD back′ at 0 ≡ getD back at 0
+
+-- The first n cells are those of a row, and all others as they were.
+pub record FirstFilled (best : List Float) (back : List ℕ) (best′ : List Float) (back′ : List ℕ) (n : ℕ) (cells : ℕ → Cell Marked) : Type 0 where
+  pub row : Row best′ back′ first n cells
+  pub rest : (at : ℕ) → n ≤ at → Same best back best′ back′ at
+
+-- what a start at each boundary leaves in the first row
+abbrev pub startCells : List Float → ℕ → Cell Marked
+startCells start j = held (record { value = getD start j nan; mark = 1 })
+
+-- the gap costs of a problem, as a table
+abbrev pub GapsOf : Problem → List Float → ℕ → Type 0
+GapsOf q gap n = (i : ℕ) → suc i < n → getD gap i nan ≡ q .gapCost i
+
+-- The row is swept by gaps, whichever row it was.
+abbrev pub Swept : Problem → List Float → List ℕ → List Float → List ℕ → ℕ → Type 0
+Swept q best back best′ back′ n =
+    (cells : ℕ → Cell Marked) → Row best back first n cells → FirstFilled best back best′ back′ n (sweep (marks q) cells)
