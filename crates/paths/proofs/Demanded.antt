@@ -1,6 +1,7 @@
 -- Demand 3 leaves one answer, up to which of several best paths stands and to the sign of a zero, and a search that picks a best
 -- path wherever a pass admits one meets it. Assumes nothing.
 use mathlib.Core.Path.{_≡_, refl, sym, subst, subst₂}
+use mathlib.Core.Logic.{_↔_}
 use mathlib.Core.Bool.{Bool, true, false, not, cond, _&&_}
 use mathlib.Core.List.{List, [], _∷_}
 use Prim.Native.Nat.{ℕ}
@@ -27,6 +28,10 @@ pub data Alike : Answer → Answer → Type 0 where
   none-alike : Alike none none
   unvoiced-alike : Alike unvoiced unvoiced
 
+-- the answer is a path
+pub data HasPath : Answer → Type 0 where
+  has-path : {pass : Pass} {path : Path} {total : Float} → HasPath (found pass path total)
+
 module _ (phrase : Phrase) (columns : List ℕ) where
   conflict : (pass : Pass) → AdmitsNone phrase columns pass → Admits phrase columns pass → ⊥
   unfolding NoPath
@@ -41,6 +46,13 @@ module _ (phrase : Phrase) (columns : List ℕ) where
   none-first : {order : List Pass} {pass : Pass} → Each (AdmitsNone phrase columns) order → FirstOf phrase columns pass order → ⊥
   none-first {pass = pass} (each-of missing others) (here a) = conflict pass missing a
   none-first (each-of missing others) (after missed first) = none-first others first
+
+  -- "The answer is 'no path' exactly when speech or a nucleus is lacking, or no pass admits a path of that count", the other way round
+  pub path-exactly : {answer : Answer} → Demanded phrase columns answer
+      → HasPath answer ↔ (T (speaks (phrase .speech)) × T (hasNucleus phrase) × ((pass : Pass) × FirstOf phrase columns pass (inOrder phrase)))
+  path-exactly (a-path {pass = pass} f) = (λ has. (f .speech, f .nucleus, (pass, f .first)), λ all. has-path)
+  path-exactly (no-path nucleus missing) = (λ has. elim has [ ], λ all. absurd (none-first (missing (all .0)) (all .2 .1)))
+  path-exactly (no-nucleus lacking) = (λ has. elim has [ ], λ all. absurd (T-not (hasNucleus phrase) lacking (all .1)))
 
   -- the paths of the pass named have finite sums
   module _ (finite : (pass : Pass) → FirstOf phrase columns pass (inOrder phrase) → Finite (passProblem phrase pass columns) (length columns)) where

@@ -127,8 +127,7 @@ module _ {anchors : List Anchor} (rising : Rising 0 anchors) (beyond from to : �
   unfolding secondAhead
   holds-more past = rw (held-ahead anchors from to) (more-before beyond to rising-ahead most past)
 
-  -- the code's test of what a unit holds
-  pub mayHold-ahead : (strictness : Strictness)
+  mayHold-ahead : (strictness : Strictness)
       → mayHold strictness (length (heldIn anchors from to)) ≡ mayHold strictness (takenIn (firstAhead beyond anchors from) (secondAhead beyond anchors from) to)
   mayHold-ahead strictness =
       let first = firstAhead beyond anchors from in
@@ -141,7 +140,14 @@ module _ {anchors : List Anchor} (rising : Rising 0 anchors) (beyond from to : �
       (λ s. let beyond-two = nleb→lt to second s in
       rw (lt-leb to second beyond-two) (may-not strictness _ (holds-more beyond-two) ∙ sym (may-not strictness 2 (le-refl 2))))))
 
-  -- the code's score of a unit
+  -- the test of a unit, by the two anchors ahead
+  pub admits-ahead : (strictness : Strictness)
+      → admitsUnit strictness anchors from to
+      ≡ (fitsUnit (to - from) && mayHold strictness (takenIn (firstAhead beyond anchors from) (secondAhead beyond anchors from) to))
+  unfolding admitsUnit
+  admits-ahead strictness = ap (λ (b : Bool). fitsUnit (to - from) && b) (mayHold-ahead strictness)
+
+  -- the score of a unit, by the first of them
   pub score-ahead : (row : ℕ) (phrase : Phrase) (column : ℕ)
       → scoreOf phrase column (heldIn anchors from to)
       ≡ cond (leb to (firstAhead beyond anchors from)) (phrase .costs .«unvoiced») (phrase .score (rowAhead row anchors from) column)

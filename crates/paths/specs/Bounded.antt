@@ -11,8 +11,8 @@ use Rattle.paths.specs.Problem.{Problem}
 use Rattle.paths.specs.Units.{shortestUnit, longestUnit}
 use Rattle.paths.specs.Passes.{nonEmpty}
 
--- The figures of a problem: starts and ends up to `edge`, gaps and units up to `step`. "A path's sum" then stays up to
--- edge + size × step + edge, since each step goes to a later boundary.
+-- The figures of a problem: starts and ends up to `edge`, gaps and units up to `step`. Each step goes to a later boundary, so
+-- that a path has fewer than `size` of them.
 pub record Figures (q : Problem) (edge step : ℕ) : Type 0 where
   pub starts : (i : ℕ) → i < q .size → Within binary64 (q .start i) edge
   pub gaps : (i : ℕ) → suc i < q .size → Within binary64 (q .gapCost i) step
