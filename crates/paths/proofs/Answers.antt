@@ -17,7 +17,7 @@ use Rattle.paths.specs.Passes.{passProblem, nonEmpty, inOrder}
 use Rattle.paths.specs.Demand.{Answer, FirstOf, here, after, Each, all-done, each-of, Demanded}
 use Rattle.paths.specs.Search.{chosen}
 use Rattle.paths.specs.Finite.{Finite}
-use Rattle.paths.specs.Bounded.{Figures, Bounds, fillerBound, stepBound, Room, PhraseBounded, documentBounds}
+use Rattle.paths.specs.Bounded.{Figures, Ranges, fillerBound, stepBound, Room, PhraseBounded, documentRanges}
 use Rattle.paths.proofs.Demanded.{Picked, picked, nothing, search-demanded, Alike, one-answer}
 use Rattle.paths.proofs.Finite.{finite}
 use Rattle.paths.proofs.Chosen.{none-chosen}
@@ -32,7 +32,7 @@ first-each : {P : Pass → Type 0} {phrase : Phrase} {columns : List ℕ} {pass 
 first-each (each-of p others) (here a) = p
 first-each (each-of p others) (after missing first) = first-each others first
 
-pub document-room : Room documentBounds
+pub document-room : Room documentRanges
 document-room = record { frames = lit≤ tt; nuclei = lit≤ tt; sums = lit≤ tt }
 
 -- the cell rule picks a best path, or nothing where no path is admitted
@@ -43,7 +43,7 @@ rule-picks q k finite = go (chosenPath q k) refl
     go empty e = nothing (none-chosen q k e)
     go (held path) e = picked (chosen-best q k finite path e)
 
-module _ {most : Bounds} {phrase : Phrase} {columns : List ℕ} (room : Room most) (bounded : PhraseBounded most phrase columns) where
+module _ {most : Ranges} {phrase : Phrase} {columns : List ℕ} (room : Room most) (bounded : PhraseBounded most phrase columns) where
   abbrev PassFigures : Pass → Type 0
   PassFigures pass = Figures (passProblem phrase pass columns) (fillerBound most) (stepBound most)
 

@@ -17,7 +17,7 @@ use Rattle.paths.specs.Frames.{within, speechIn}
 use Rattle.paths.specs.Anchors.{Anchor, select, numbered, keptIn, kept, heldIn}
 use Rattle.paths.specs.Units.{shortestUnit, longestUnit, fitsUnit, mayHold, admitsUnit}
 use Rattle.paths.specs.StageProblem.{cost, scoreOf, unitValueOf, boundary, problemOf}
-use Rattle.paths.specs.Bounded.{Figures, Bounds, fillerBound, stepBound, Room, Bounded}
+use Rattle.paths.specs.Bounded.{Figures, Ranges, fillerBound, stepBound, Room, Bounded}
 use Rattle.paths.proofs.Tests.{left-half, right-half}
 use Rattle.paths.proofs.Frames.{speechIn-le}
 use Rattle.paths.proofs.Anchors.{keptIn-le, heldIn-le}
@@ -55,7 +55,7 @@ counted-within : {x : Float} {a n : ℕ} (m : ℕ) → Within binary64 x a → n
 counted-within {a = a} {n = n} m p h k room =
     weaken (a * m) (mul-le-mul-left a h) (mul-within p n (le-trans (mul-le-mul-left a h) room) (le-trans h k))
 
-module _ {most : Bounds} {phrase : Phrase} {stage : Stage} {columns : List ℕ} (room : Room most) (bounded : Bounded most phrase stage columns) where
+module _ {most : Ranges} {phrase : Phrase} {stage : Stage} {columns : List ℕ} (room : Room most) (bounded : Bounded most phrase stage columns) where
   cost-within : (from to : ℕ) → Within binary64 (cost phrase from to) (fillerBound most)
   unfolding cost
   cost-within from to =

@@ -20,8 +20,8 @@ pub record Figures (q : Problem) (edge step : ℕ) : Type 0 where
   pub stops : (i : ℕ) → i < q .size → Within binary64 (q .stopCost i) edge
   pub room : edge + q .size * step + edge ≤ 2 ^ prec binary64
 
--- the bounds: how many frames, nuclei and boundaries, and how large each figure
-pub record Bounds : Type 0 where
+-- how many frames, nuclei and boundaries there may be, and how large each figure
+pub record Ranges : Type 0 where
   pub frames : ℕ
   pub nuclei : ℕ
   pub boundaries : ℕ
@@ -31,21 +31,21 @@ pub record Bounds : Type 0 where
   pub duration : ℕ
 
 -- the bound on a filler cost
-abbrev pub fillerBound : Bounds → ℕ
+abbrev pub fillerBound : Ranges → ℕ
 fillerBound most = most .perFrame * most .frames + most .insertion * most .nuclei
 
 -- the bound on a step: a gap or a unit
-abbrev pub stepBound : Bounds → ℕ
+abbrev pub stepBound : Ranges → ℕ
 stepBound most = fillerBound most + (most .score + most .duration)
 
--- There is room for the bounds.
-pub record Room (most : Bounds) : Type 0 where
+-- There is room for them.
+pub record Room (most : Ranges) : Type 0 where
   pub frames : most .frames ≤ 2 ^ prec binary64
   pub nuclei : most .nuclei ≤ 2 ^ prec binary64
   pub sums : fillerBound most + most .boundaries * stepBound most + fillerBound most ≤ 2 ^ prec binary64
 
--- A stage of a phrase and a candidate's columns keep to the bounds.
-pub record Bounded (most : Bounds) (phrase : Phrase) (stage : Stage) (columns : List ℕ) : Type 0 where
+-- A stage of a phrase and a candidate's columns keep to the ranges.
+pub record Bounded (most : Ranges) (phrase : Phrase) (stage : Stage) (columns : List ℕ) : Type 0 where
   pub frames : length (phrase .mask) ≤ most .frames
   pub nuclei : length (phrase .nuclei .anchors) ≤ most .nuclei
   pub boundaries : length (stage .boundaries) ≤ most .boundaries
@@ -57,10 +57,10 @@ pub record Bounded (most : Bounds) (phrase : Phrase) (stage : Stage) (columns : 
   pub durations : (frames : ℕ) → shortestUnit ≤ frames → frames ≤ longestUnit → Within binary64 (stage .duration frames) (most .duration)
 
 -- Every stage that a pass searches keeps to them: the nuclei's, and the added one where it exists.
-pub record PhraseBounded (most : Bounds) (phrase : Phrase) (columns : List ℕ) : Type 0 where
+pub record PhraseBounded (most : Ranges) (phrase : Phrase) (columns : List ℕ) : Type 0 where
   pub nuclei : Bounded most phrase (phrase .nuclei) columns
   pub added : T (nonEmpty (phrase .added .anchors)) → Bounded most phrase (phrase .added) columns
 
 -- document 01's limits and ranges
-abbrev pub documentBounds : Bounds
-documentBounds = record { frames = 2048; nuclei = 32; boundaries = 64; perFrame = 1000; insertion = 1000; score = 1000000; duration = 1000000 }
+abbrev pub documentRanges : Ranges
+documentRanges = record { frames = 2048; nuclei = 32; boundaries = 64; perFrame = 1000; insertion = 1000; score = 1000000; duration = 1000000 }
