@@ -8,7 +8,7 @@ use lib.ListN.{length}
 use Rattle.phrase.specs.Phrase.{Phrase}
 use Rattle.paths.specs.declared.passes.Strictness.the-variants.{Strict, Relaxed}
 use Rattle.paths.specs.declared.passes.Pass.{Pass}
-use Rattle.paths.specs.declared.passes.Pass.the-variants.{NucleiStrict, CountStrict, CountRelaxed, NucleiRelaxed}
+use Rattle.paths.specs.declared.passes.Pass.the-variants.{CountStrict, CountRelaxed, NucleiRelaxed}
 use Rattle.paths.specs.Problem.{Problem}
 use Rattle.paths.specs.Path.{Path}
 use Rattle.paths.specs.Cell.{Cell, empty, held}

@@ -1,13 +1,12 @@
 -- Every value and every sum of an admitted path is finite: each figure has a whole-number bound, and they add up. Assumes nothing.
-use mathlib.Core.Path.{_≡_, sym, subst}
-use Prim.Native.Nat.{ℕ, zero, suc, _+_, _*_, _^_, _≤_, _<_}
-use native.Mathlib.Nat.{le-trans, mul-le-mul-right, add-le-add, le-refl, suc-mul}
+use Prim.Native.Nat.{ℕ, suc, _+_, _*_, _^_, _≤_, _<_}
+use native.Mathlib.Nat.{mul-le-mul-right, suc-mul}
 use native.Mathlib.Omega.{arith}
-use lib.Ieee.{Float, binary64, prec}
-use Rattle.ieee.specs.Value.{Real, Within}
+use lib.Ieee.{binary64, prec}
+use Rattle.ieee.specs.Value.{Within}
 use Rattle.ieee.proofs.Magnitude.{add-within, sub-within, weaken}
 use Rattle.paths.specs.Problem.{Problem}
-use Rattle.paths.specs.Path.{Path, begin, gap, unit, end, Admitted, begins, gaps, units, value, sum}
+use Rattle.paths.specs.Path.{Path, end, Admitted, begins, gaps, units, value, sum}
 use Rattle.paths.specs.Bounded.{Figures}
 use Rattle.paths.specs.Finite.{Finite}
 
@@ -19,7 +18,7 @@ end-below (gaps a h) = h
 end-below (units a h k ok) = k
 
 module _ {q : Problem} {edge step : ℕ} (figures : Figures q edge step) where
-  -- up to a boundary there is room, with one more step
+  -- there is room up to each boundary
   room-to : (j : ℕ) → j ≤ q .size → edge + j * step ≤ 2 ^ prec binary64
   room-to j h = omega (arith, figures .room, mul-le-mul-right step h)
 

@@ -7,7 +7,7 @@ use Prim.Native.Nat.{ℕ}
 use lib.IntN.{pos, negsuc}
 use lib.Dec.{eqb}
 use lib.ListN.{replicate}
-use lib.Ieee.{Float, fin, binary32, binary64, toBits, add, sub, mul, neg, ofInt, lt}
+use lib.Ieee.{Float, fin, binary32, toBits, add, sub, mul, neg, ofInt, lt}
 use Rattle.phrase.specs.Phrase.{Phrase, Stage, Speech, silent, spoken}
 use Rattle.paths.specs.declared.passes.Strictness.the-variants.{Strict, Relaxed}
 use Rattle.paths.specs.declared.passes.Pass.the-variants.{NucleiStrict, CountStrict, CountRelaxed, NucleiRelaxed}

@@ -1,8 +1,7 @@
 -- The figures of a stage's problem keep to whole-number bounds where those of the phrase do. Assumes nothing.
-use mathlib.Core.Path.{_≡_, refl, sym, subst}
-use mathlib.Core.Bool.{Bool, true, false, cond, _&&_}
+use mathlib.Core.Bool.{Bool, true, false, cond}
 use mathlib.Core.List.{List, [], _∷_}
-use Prim.Native.Nat.{ℕ, zero, suc, _+_, _-_, _*_, _^_, _≤_, _<_}
+use Prim.Native.Nat.{ℕ, suc, _+_, _-_, _*_, _^_, _≤_, _<_}
 use native.Mathlib.Nat.{le-trans, mul-le-mul-left, mul-le-mul-right}
 use native.Mathlib.Omega.{arith}
 use lib.Dec.{T, leb, leb→le}
@@ -13,7 +12,6 @@ use Rattle.ieee.proofs.Magnitude.{add-within, sub-within, mul-within, neg-withi
 use Rattle.phrase.specs.Phrase.{Phrase, Stage}
 use Rattle.phrase.specs.Filler.{counted}
 use Rattle.paths.specs.declared.passes.Strictness.{Strictness}
-use Rattle.paths.specs.Frames.{within, speechIn}
 use Rattle.paths.specs.Anchors.{Anchor, select, numbered, keptIn, kept, heldIn}
 use Rattle.paths.specs.Units.{shortestUnit, longestUnit, fitsUnit, mayHold, admitsUnit}
 use Rattle.paths.specs.StageProblem.{cost, scoreOf, unitValueOf, boundary, problemOf}

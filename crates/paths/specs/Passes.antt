@@ -7,7 +7,7 @@ use Rattle.paths.specs.declared.passes.Strictness.the-variants.{Strict, 
 use Rattle.paths.specs.declared.passes.Pass.{Pass}
 use Rattle.paths.specs.declared.passes.Pass.the-variants.{NucleiStrict, CountStrict, CountRelaxed, NucleiRelaxed}
 use Rattle.paths.specs.Problem.{Problem}
-use Rattle.paths.specs.Anchors.{Anchor, kept}
+use Rattle.paths.specs.Anchors.{kept}
 use Rattle.paths.specs.StageProblem.{problemOf}
 
 -- "Pass: 0 nuclei-strict, 1 count-strict, 2 count-relaxed, 3 nuclei-relaxed"
