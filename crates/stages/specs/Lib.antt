@@ -2,3 +2,4 @@
 pub mod Listed
 pub mod Edges
 pub mod Tables
+pub mod Kept
