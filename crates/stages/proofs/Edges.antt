@@ -1,10 +1,12 @@
 -- Which frame an edge is.
 use Prim.Native.Nat.{ℕ, zero, suc, _+_, _≤_, _<_}
 use mathlib.Core.Path.{_≡_, refl}
+use mathlib.Core.Bool.{Bool, true, false, not}
 use mathlib.Core.List.{List, [], _∷_}
 use native.Mathlib.Omega.{arith}
 use native.Mathlib.Nat.{le-refl}
 use native.Mathlib.Numerals.{add-one}
+use lib.Dec.{T, ltb, ltb→lt, nltb→le}
 use lib.ListN.{length, getD, List·getD-eq-default}
 use Rattle.paths.specs.Frames.{Increasing}
 use Rattle.stages.specs.Edges.{edge}
@@ -23,3 +25,14 @@ edge-end bounds last = List·getD-eq-default bounds last (le-refl (length bounds
 -- the next boundary is not before this one
 pub ascends : (bounds : List ℕ) → Increasing bounds → (j : ℕ) → j + 1 < length bounds → getD bounds j 0 ≤ getD bounds (j + 1) 0
 ascends bounds increasing j h = rw (add-one j) (omega (arith, increasing j (omega arith)))
+
+-- nor is the next edge, where the last frame is not
+pub edge-ascends : (bounds : List ℕ) (last : ℕ) → Increasing bounds → (j : ℕ) → j < length bounds → getD bounds j 0 ≤ last
+    → getD bounds j 0 ≤ edge bounds last (j + 1)
+edge-ascends bounds last increasing j h k = go (ltb (j + 1) (length bounds)) (ltb→lt (j + 1) (length bounds)) (nltb→le (j + 1) (length bounds))
+  where
+    go : (more : Bool) → (T more → j + 1 < length bounds) → (T (not more) → length bounds ≤ j + 1) → getD bounds j 0 ≤ edge bounds last (j + 1)
+    go true less greater = rw (edge-in bounds last (j + 1) (less tt)) (ascends bounds increasing j (less tt))
+    go false less greater =
+        let e : j + 1 ≡ length bounds = omega (arith, greater tt) in
+        rw (e, edge-end bounds last) k

@@ -1,14 +1,16 @@
 -- Kept anchors, one listed frame at a time, and the arrays that hold them.
 use Prim.Native.Nat.{ℕ, zero, suc, _+_, _≤_, _<_}
 use mathlib.Core.Path.{_≡_, refl, sym, ap, ap₂, _∙_}
-use mathlib.Core.Bool.{Bool, true, false, cond}
+use mathlib.Core.Bool.{Bool, true, false, not, cond}
 use mathlib.Core.List.{List, [], _∷_, _++_, map, append-nil}
 use native.Mathlib.Omega.{arith}
 use native.Mathlib.Numerals.{add-one}
 use native.Mathlib.Nat.{add-zero, add-suc, suc-add}
+use lib.Dec.{eqb, eqb·suc-zero}
 use lib.ListN.{length, getD, take, set, replicate, length-append, length-map}
 use lib.Seq.{take-suc, length-take-le}
 use Rattle.paths.specs.Frames.{within}
+use Rattle.paths.specs.Passes.{nonEmpty}
 use Rattle.paths.specs.Anchors.{Anchor, select, numbered, keptIn}
 use Rattle.stages.specs.Listed.{padded}
 use Rattle.stages.specs.Tables.{beyond}
@@ -86,3 +88,7 @@ module _ (mask : List ℕ) (first : ℕ) (listed : List ℕ) (i : ℕ) (h : i < 
 
   pub drops-it : within mask (getD listed i 0) ≡ false → Keeps (keptIn mask first (take (i + 1) listed)) count frames rows
   drops-it e = rw (one-more mask first listed i h, e, append-nil) before
+
+pub counted-some : (anchors : List Anchor) (count : ℕ) → count ≡ length anchors → not (eqb count 0) ≡ nonEmpty anchors
+counted-some [] count e = ap (λ (n : ℕ). not (eqb n 0)) e
+counted-some (anchor ∷ anchors) count e = ap (λ (n : ℕ). not (eqb n 0)) e ∙ ap not (eqb·suc-zero (length anchors))

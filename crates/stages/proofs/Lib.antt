@@ -3,3 +3,4 @@ pub mod Listed
 pub mod Edges
 pub mod Speech
 pub mod Kept
+pub mod Places

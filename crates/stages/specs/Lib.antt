@@ -3,3 +3,4 @@ pub mod Listed
 pub mod Edges
 pub mod Tables
 pub mod Kept
+pub mod Places

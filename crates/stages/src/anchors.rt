@@ -3,9 +3,13 @@
 ghost use mathlib.Core.Path.{_≡_};
 ghost use Prim.Native.Nat.{_+_, _<_, _≤_, _^_};
 ghost use lib.ListN.{length};
-ghost use Rattle.paths.specs.Frames.{within as isWithin};
+ghost use Rattle.paths.specs.Frames.{Increasing, within as isWithin};
 ghost use Rattle.paths.specs.Anchors.{keptIn};
+ghost use Rattle.paths.specs.Passes.{nonEmpty};
+ghost use Rattle.stages.specs.Listed.{tableOf};
+ghost use Rattle.stages.specs.Tables.{beyond};
 ghost use Rattle.stages.specs.Kept.{Keeps};
+ghost use Rattle.stages.specs.Places.{Climbs, countBelow, placeBefore};
 
 // A frame that no boundary passes.
 pub const BEYOND: u32 = 4294967295;
@@ -54,4 +58,42 @@ pub fn kept_anchors(mask: &[u8], anchors: &[u32], first_row: u32) -> Kept
         frames,
         rows,
     }
+}
+
+// Whether a nucleus is within the mask.
+pub fn has_nucleus(mask: &[u8], nuclei: &[u32]) -> bool
+    requires { ⌜ length (now nuclei) ≤ 64 ⌝ }
+    ensures { λ r. ⌜ r ≡ nonEmpty (keptIn (now (mask .entry)) 0 (now (nuclei .entry))) ⌝ }
+{
+    let kept = kept_anchors(mask, nuclei, 0);
+    kept.count != 0
+}
+
+// How many frames are below a bound, where the first `from` of them are known to be. The last frame is never below it.
+fn advance(frames: &[u32], from: usize, bound: u32) -> usize
+    requires { ⌜ Climbs 0 beyond (now frames) × (from ≤ countBelow (now frames) bound) × (countBelow (now frames) bound < length (now frames)) ⌝ }
+    ensures { λ r. ⌜ r ≡ countBelow (now (frames .entry)) bound ⌝ }
+{
+    let mut at = from;
+    while frames[at] < bound {
+        at += 1;
+    }
+    at
+}
+
+// For each boundary, how many of the frames are below it; at last how many there are.
+pub fn places(frames: &[u32], bounds: &[u32]) -> [usize; 65]
+    requires { ⌜ Climbs 0 beyond (now frames) × (countBelow (now frames) beyond < length (now frames)) × (length (now bounds) ≤ 64) × Increasing (now bounds) ⌝ }
+    ensures { λ r. ⌜ r ≡ tableOf (placeBefore (now (frames .entry)) (now (bounds .entry))) (length (now (bounds .entry)) + 1) 65 0 ⌝ }
+{
+    let mut places = [0usize; 65];
+    let mut place = 0;
+    let mut j = 0;
+    while j < bounds.len() {
+        place = advance(frames, place, bounds[j]);
+        places[j] = place;
+        j += 1;
+    }
+    places[j] = advance(frames, place, BEYOND);
+    places
 }
