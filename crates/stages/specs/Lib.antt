@@ -4,3 +4,4 @@ pub mod Edges
 pub mod Tables
 pub mod Kept
 pub mod Places
+pub mod Filler

@@ -2,4 +2,5 @@
 
 pub mod anchors;
 pub mod counts;
+pub mod filler;
 pub mod tables;

@@ -60,8 +60,7 @@ loop-again c =
     let l = c .before .before .before .loop in
     let e = edge-in bounds beyond (l .j) (omega arith) in (
       omega arith,
-      ap (λ (places : List ℕ). set places (l .j) (c .advance .result)) (l .inv .1)
-          ∙ table-more (placeBefore frames bounds) (l .j) 65 0 _ (omega arith) (c .advance .ensures ∙ ap (countBelow frames) (sym e)),
+      table-more (placeBefore frames bounds) (l .j) 65 0 _ (l .places) (l .inv .1) (omega arith) (c .advance .ensures ∙ ap (countBelow frames) (sym e)),
       rw (c .advance .ensures)
           (below-mono frames (getD bounds (l .j) 0) (edge bounds beyond (l .j + 1))
           (edge-ascends bounds beyond (pre .3) (l .j) (omega arith) (omega (arith, c .before .shared-slice-known3 .given (l .j))))),
@@ -87,8 +86,7 @@ returns c =
     let bounds = c .before .before .before .before .before .args .bounds .now in
     let l = c .before .before .loop in
     let e : l .j ≡ length bounds = omega arith in
-    ap (λ (places : List ℕ). set places (l .j) (c .advance2 .result)) (l .inv .1)
-    ∙ table-more (placeBefore frames bounds) (l .j) 65 0 _ (omega arith)
+    table-more (placeBefore frames bounds) (l .j) 65 0 _ (l .places) (l .inv .1) (omega arith)
     (c .advance2 .ensures ∙ ap (countBelow frames) (sym (ap (λ (j : ℕ). edge bounds beyond j) e ∙ edge-end bounds beyond)))
     ∙ ap (λ (j : ℕ). tableOf (placeBefore frames bounds) (j + 1) 65 0) e
 

@@ -73,8 +73,7 @@ loop-again c =
     let bounds = c .before .before .before .before .before .before .args .bounds .now in
     let l = c .before .before .before .loop in (
       omega arith,
-      ap (λ (counts : List ℕ). set counts (l .j) (l .count + c .speech-in .result)) (l .inv .1)
-          ∙ table-more (speechBefore mask bounds) (l .j) 65 0 _ (omega arith)
+      table-more (speechBefore mask bounds) (l .j) 65 0 _ (l .counts) (l .inv .1) (omega arith)
           (counted c ∙ ap (speechIn mask 0) (sym (edge-in bounds (length mask) (l .j) (omega arith)))),
       counted c,
       ascends bounds (c .before .before .before .before .before .before .pre .2) (l .j),
@@ -101,8 +100,7 @@ returns c =
     let bounds = c .before .before .before .before .before .args .bounds .now in
     let l = c .before .before .loop in
     let e : l .j ≡ length bounds = omega arith in
-    ap (λ (counts : List ℕ). set counts (l .j) (l .count + c .speech-in2 .result)) (l .inv .1)
-    ∙ table-more (speechBefore mask bounds) (l .j) 65 0 _ (omega arith)
+    table-more (speechBefore mask bounds) (l .j) 65 0 _ (l .counts) (l .inv .1) (omega arith)
     (counted-all c ∙ ap (speechIn mask 0) (sym (ap (λ (j : ℕ). edge bounds (length mask) j) e ∙ edge-end bounds (length mask))))
     ∙ ap (λ (j : ℕ). tableOf (speechBefore mask bounds) (j + 1) 65 0) e
 
