@@ -5,3 +5,4 @@ pub mod Tables
 pub mod Kept
 pub mod Places
 pub mod Filler
+pub mod Ahead

@@ -1,5 +1,6 @@
 // The tables of a stage that the search reads, made once for a record and stage, after `Stage` and `Filler` of closed.rs.
 
+pub mod ahead;
 pub mod anchors;
 pub mod counts;
 pub mod filler;
