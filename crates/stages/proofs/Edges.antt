@@ -1,10 +1,10 @@
 -- Which frame an edge is.
-use Prim.Native.Nat.{ℕ, zero, suc, _+_, _≤_, _<_}
-use mathlib.Core.Path.{_≡_, refl}
+use Prim.Native.Nat.{ℕ, zero, suc, _+_, _-_, _≤_, _<_, min}
+use mathlib.Core.Path.{_≡_, refl, ap}
 use mathlib.Core.Bool.{Bool, true, false, not}
 use mathlib.Core.List.{List, [], _∷_}
 use native.Mathlib.Omega.{arith}
-use native.Mathlib.Nat.{le-refl}
+use native.Mathlib.Nat.{le-refl, add-zero, add-suc}
 use native.Mathlib.Numerals.{add-one}
 use lib.Dec.{T, ltb, ltb→lt, nltb→le}
 use lib.ListN.{length, getD, List·getD-eq-default}
@@ -36,3 +36,22 @@ edge-ascends bounds last increasing j h k = go (ltb (j + 1) (length bounds)) (lt
     go false less greater =
         let e : j + 1 ≡ length bounds = omega (arith, greater tt) in
         rw (e, edge-end bounds last) k
+
+climb : (bounds : List ℕ) → Increasing bounds → (i steps : ℕ) → i + steps < length bounds → getD bounds i 0 ≤ getD bounds (i + steps) 0
+climb bounds increasing i zero h = rw (add-zero i) (omega arith)
+climb bounds increasing i (suc steps) h =
+    rw (add-suc i steps) (omega (arith, climb bounds increasing i steps (omega arith), increasing (i + steps) (omega arith)))
+
+-- Edges ascend, clamped to the last frame.
+pub edges-climb : (bounds : List ℕ) (last : ℕ) → Increasing bounds → (i j : ℕ) → i ≤ j → j ≤ length bounds
+    → min (edge bounds last i) last ≤ min (edge bounds last j) last
+edges-climb bounds last increasing i j h k = go (ltb j (length bounds)) (ltb→lt j (length bounds)) (nltb→le j (length bounds))
+  where
+    go : (more : Bool) → (T more → j < length bounds) → (T (not more) → length bounds ≤ j) → min (edge bounds last i) last ≤ min (edge bounds last j) last
+    go true less greater =
+        let e : i + (j - i) ≡ j = omega arith in
+        let up = rw e at (climb bounds increasing i (j - i) (omega (arith, less tt))) in
+        omega (arith, up, edge-in bounds last i (omega (arith, less tt)), edge-in bounds last j (less tt))
+    go false less greater =
+        let e : j ≡ length bounds = omega (arith, greater tt) in
+        omega (arith, ap (λ (n : ℕ). edge bounds last n) e, edge-end bounds last)

@@ -4,3 +4,5 @@ pub mod Edges
 pub mod Speech
 pub mod Kept
 pub mod Places
+pub mod Held
+pub mod Stage

@@ -86,3 +86,11 @@ module _ {A : Type 0} where
 
   pub length-table : (f : ℕ → A) (n size : ℕ) (spare : A) → n ≤ size → length (tableOf f n size spare) ≡ size
   length-table f n size spare h = length-padded (listed f n) size spare (omega (arith, length-listed f n))
+
+  pub table-same : (f g : ℕ → A) (n size : ℕ) (spare : A) → ((i : ℕ) → i < n → f i ≡ g i) → tableOf f n size spare ≡ tableOf g n size spare
+  unfolding listed
+  table-same f g n size spare h = ap (λ (l : List A). padded l size spare) (same n h)
+    where
+      same : (m : ℕ) → ((i : ℕ) → i < m → f i ≡ g i) → listed f m ≡ listed g m
+      same zero k = refl
+      same (suc m) k = ap₂ (λ (l : List A) (x : A). l ++ (x ∷ [])) (same m (λ i less. k i (omega arith))) (k m (omega arith))

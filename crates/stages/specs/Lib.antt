@@ -6,3 +6,4 @@ pub mod Kept
 pub mod Places
 pub mod Filler
 pub mod Ahead
+pub mod Parts

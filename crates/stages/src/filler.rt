@@ -1,9 +1,14 @@
 // The filler costs of a stage, from the counts before its boundaries, after `Filler::cost` of closed.rs.
 
+use crate::anchors::kept_anchors;
+use crate::anchors::places;
+use crate::counts::speech_before;
 use phrase::costs::Costs;
 ghost use mathlib.Core.Path.{_≡_};
 ghost use Prim.Native.Nat.{_<_, _≤_, _^_};
 ghost use lib.ListN.{getD};
+ghost use Rattle.paths.specs.Anchors.{keptIn};
+ghost use Rattle.stages.specs.Parts.{Fit, FitList, Fills};
 ghost use Rattle.stages.specs.Filler.{Rises, Ascends, stretch, Priced};
 
 // For each boundary the cost of the start, negated, that of the gap to the next edge, and that of the end.
@@ -22,7 +27,7 @@ fn between(speech: &[u32], nuclei: &[usize], i: usize, j: usize, costs: Costs) -
 }
 
 // The costs at `size` boundaries, which the last edge follows.
-pub fn filler_costs(speech: &[u32], nuclei: &[usize], size: usize, costs: Costs) -> Filler
+fn filler_costs(speech: &[u32], nuclei: &[usize], size: usize, costs: Costs) -> Filler
     requires { ⌜ (size ≤ 64) × Ascends (now speech) size × Ascends (now nuclei) size × (getD (now nuclei) size 0 < 2 ^ 32) ⌝ }
     ensures { λ r. ⌜ Priced costs (now (speech .entry)) (now (nuclei .entry)) size size (r .start) (r .gap) (r .stop) ⌝ }
 {
@@ -37,4 +42,16 @@ pub fn filler_costs(speech: &[u32], nuclei: &[usize], size: usize, costs: Costs)
         j += 1;
     }
     Filler { start, gap, stop }
+}
+
+// The filler costs of a stage with these boundaries. The nuclei are the record's, whatever the stage.
+pub fn stage_filler(mask: &[u8], nuclei: &[u32], bounds: &[u32], costs: Costs) -> Filler
+    requires { ⌜ Fit (now mask) (now bounds) × FitList (now nuclei) ⌝ }
+    ensures { λ r. ⌜ Fills costs (now (mask .entry)) (keptIn (now (mask .entry)) 0 (now (nuclei .entry))) (now (bounds .entry)) (r .start) (r .gap) (r .stop) ⌝ }
+{
+    let kept = kept_anchors(mask, nuclei, 0);
+    let frames = kept.frames;
+    let inserted = places(&frames, bounds);
+    let speech = speech_before(mask, bounds);
+    filler_costs(&speech, &inserted, bounds.len(), costs)
 }
