@@ -6,3 +6,4 @@ pub mod Kept
 pub mod Places
 pub mod Held
 pub mod Stage
+pub mod OwnTables

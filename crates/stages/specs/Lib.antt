@@ -7,3 +7,4 @@ pub mod Places
 pub mod Filler
 pub mod Ahead
 pub mod Parts
+pub mod Made
