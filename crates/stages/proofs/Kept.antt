@@ -81,10 +81,10 @@ keeps-more anchors anchor count frames rows h k = record {
 -- One listed frame more, kept or dropped.
 module _ (mask : List ℕ) (first : ℕ) (listed : List ℕ) (i : ℕ) (h : i < length listed) (count : ℕ) (frames rows : List ℕ)
     (before : Keeps (keptIn mask first (take i listed)) count frames rows) where
-  pub keeps-it : (row : ℕ) → row ≡ first + i → count < room → within mask (getD listed i 0) ≡ true
-      → Keeps (keptIn mask first (take (i + 1) listed)) (count + 1) (set frames count (getD listed i 0)) (set rows count row)
-  keeps-it row placed small e =
-      rw (one-more mask first listed i h, e, ← placed) (keeps-more (keptIn mask first (take i listed)) (record { frame = getD listed i 0; row = row }) count frames rows small before)
+  pub keeps-it : count < room → within mask (getD listed i 0) ≡ true
+      → Keeps (keptIn mask first (take (i + 1) listed)) (count + 1) (set frames count (getD listed i 0)) (set rows count (first + i))
+  keeps-it small e =
+      rw (one-more mask first listed i h, e) (keeps-more (keptIn mask first (take i listed)) (record { frame = getD listed i 0; row = first + i }) count frames rows small before)
 
   pub drops-it : within mask (getD listed i 0) ≡ false → Keeps (keptIn mask first (take (i + 1) listed)) count frames rows
   drops-it e = rw (one-more mask first listed i h, e, append-nil) before

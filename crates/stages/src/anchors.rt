@@ -41,16 +41,14 @@ pub fn kept_anchors(mask: &[u8], anchors: &[u32], first_row: u32) -> Kept
     let mut frames = [BEYOND; 66];
     let mut rows = [0u32; 66];
     let mut count: usize = 0;
-    let mut row = first_row;
     let mut i = 0;
     while i < anchors.len() {
         let frame = anchors[i];
         if within(mask, frame) {
             frames[count] = frame;
-            rows[count] = row;
+            rows[count] = first_row + (i as u32);
             count += 1;
         }
-        row += 1;
         i += 1;
     }
     Kept {

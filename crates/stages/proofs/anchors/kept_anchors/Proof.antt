@@ -14,15 +14,15 @@ use Rattle.stages.proofs.anchors.kept_anchors.Statement.{statement}
 use Rattle.stages.proofs.anchors.kept_anchors.Tie as tie
 
 abbrev Inv-loop : tie.InvT-loop
-Inv-loop mask anchors first-row frames₀ rows₀ count₀ row₀ i₀ frames rows count row i =
-    (i ≤ length anchors) × (row ≡ first-row + i) × (count ≤ i) × Keeps (keptIn mask first-row (take i anchors)) count frames rows
+Inv-loop mask anchors first-row frames₀ rows₀ count₀ i₀ frames rows count i =
+    (i ≤ length anchors) × (count ≤ i) × Keeps (keptIn mask first-row (take i anchors)) count frames rows
 
 abbrev μ-loop : tie.MeasureT-loop
-μ-loop mask anchors first-row frames₀ rows₀ count₀ row₀ i₀ frames rows count row i = length anchors - i
+μ-loop mask anchors first-row frames₀ rows₀ count₀ i₀ frames rows count i = length anchors - i
 
 loop-holds : tie.Need-loop-holds Inv-loop μ-loop
 unfolding keptIn select numbered
-loop-holds c = (omega arith, omega arith, omega arith, keeps-none)
+loop-holds c = (omega arith, omega arith, keeps-none)
 
 mul-frame : tie.Need-mul-frame Inv-loop μ-loop
 mul-frame c = omega arith
@@ -39,6 +39,12 @@ mul-frames c = omega arith
 array-write-frames : tie.Need-array-write-frames Inv-loop μ-loop
 array-write-frames c = omega arith
 
+cast-rows : tie.Need-cast-rows Inv-loop μ-loop
+cast-rows c = omega arith
+
+add-rows : tie.Need-add-rows Inv-loop μ-loop
+add-rows c = omega arith
+
 mul-rows : tie.Need-mul-rows Inv-loop μ-loop
 mul-rows c = omega arith
 
@@ -47,9 +53,6 @@ array-write-rows c = omega arith
 
 add-count : tie.Need-add-count Inv-loop μ-loop
 add-count c = omega arith
-
-add-row : tie.Need-add-row Inv-loop μ-loop
-add-row c = omega arith
 
 add-i : tie.Need-add-i Inv-loop μ-loop
 add-i c = omega arith
@@ -69,16 +72,14 @@ loop-again c =
     (λ w. (
       omega arith,
       omega arith,
-      omega arith,
       subst₃ (λ (n : ℕ) (frames rows : List ℕ). Keeps kept n frames rows) (sym (w .3)) (sym (w .1)) (sym (w .2))
-          (keeps-it mask first anchors (l .i) more (l .count) (l .frames) (l .rows) (l .inv .3) (l .row) (l .inv .1) (omega arith) (sym (c .before .within .ensures) ∙ w .0 .taken)),
+          (keeps-it mask first anchors (l .i) more (l .count) (l .frames) (l .rows) (l .inv .2) (omega arith) (sym (c .before .within .ensures) ∙ w .0 .taken)),
     ))
     (λ w. (
       omega arith,
       omega arith,
-      omega arith,
       subst₃ (λ (n : ℕ) (frames rows : List ℕ). Keeps kept n frames rows) (sym (w .3)) (sym (w .1)) (sym (w .2))
-          (drops-it mask first anchors (l .i) more (l .count) (l .frames) (l .rows) (l .inv .3) (sym (c .before .within .ensures) ∙ w .0 .left)),
+          (drops-it mask first anchors (l .i) more (l .count) (l .frames) (l .rows) (l .inv .2) (sym (c .before .within .ensures) ∙ w .0 .left)),
     ))
     (c .if1 .came)
 
@@ -87,7 +88,7 @@ returns c =
     let anchors = c .before .before .before .before .args .anchors .now in
     let l = c .before .loop in
     let e : l .i ≡ length anchors = omega arith in
-    rw (ap (λ (n : ℕ). take n anchors) e ∙ take-length anchors) at (l .inv .3)
+    rw (ap (λ (n : ℕ). take n anchors) e ∙ take-length anchors) at (l .inv .2)
 
 pub kept-anchors-spec : {M : Type 1} → statement M
 kept-anchors-spec =
@@ -101,10 +102,11 @@ kept-anchors-spec =
     within-requires
     mul-frames
     array-write-frames
+    cast-rows
+    add-rows
     mul-rows
     array-write-rows
     add-count
-    add-row
     add-i
     loop-less
     loop-again
