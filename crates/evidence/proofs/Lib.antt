@@ -13,3 +13,4 @@ pub mod Distinct
 pub mod Cuts
 pub mod SpanFacts
 pub mod Checks
+pub mod Examples
