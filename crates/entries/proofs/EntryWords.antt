@@ -9,7 +9,7 @@ use lib.Seq.{sets, sets-eq}
 use lib.Ieee.{binary32, toBits}
 use Rattle.entries.specs.Entry.{ReportedUnit, Entry}
 use Rattle.entries.specs.Words.{unitWords, entryWords, wordsOf, allWords}
-use Rattle.entries.specs.Placing.{unitsFrom, Fit, AllFit, none, more}
+use Rattle.entries.specs.Placing.{unitsFrom, Fit, All, none, more}
 use Rattle.entries.proofs.Stores.{sets-append}
 
 pub length-unitsFrom : (starts ends rows : List ℕ) (left i : ℕ) → length (unitsFrom starts ends rows left i) ≡ left
@@ -32,7 +32,7 @@ length-wordsOf most e few =
       length-replicate {A = ℕ} (3 * (most - length (e .units))) 0,
     )
 
-pub length-allWords : (most : ℕ) {es : List Entry} → AllFit most es → length (allWords most es) ≡ length es * entryWords most
+pub length-allWords : (most : ℕ) {es : List Entry} → All (Fit most) es → length (allWords most es) ≡ length es * entryWords most
 unfolding allWords
 length-allWords most none = sym (zero-mul (entryWords most))
 length-allWords most (more {e} {es} fit fits) =

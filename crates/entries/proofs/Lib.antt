@@ -3,3 +3,5 @@ mod Stores
 mod Places
 pub mod EntryWords
 pub mod Insertion
+pub mod Ranks
+pub mod RankUnique
