@@ -1,14 +1,14 @@
 -- What document 01 claims of spans: each holds its nucleus, they stand in order, and they never overlap.
 use Prim.Native.Nat.{ℕ, zero, suc, _+_, _≤_, _<_, min, max}
 use mathlib.Core.Bool.{Bool, true, false, not, cond}
-use mathlib.Core.Path.{_≡_, refl, sym, ap, subst, _∙_}
-use mathlib.Core.List.{List, [], _∷_, map, List·Memᴰ}
+use mathlib.Core.Path.{_≡_, refl, ap}
+use mathlib.Core.List.{List, _∷_, map, List·Memᴰ}
 use native.Mathlib.Nat.{le-refl}
 use native.Mathlib.Omega.{arith}
 use lib.Dec.{T, ltb, ltb→lt, nltb→le}
 use lib.ListN.{length}
 use Rattle.evidence.specs.Frames.{highestBelow, lowestFrom, onward, ascendingFrom, orElse}
-use Rattle.evidence.specs.Spans.{uncutStart, uncutEnd, cut, startBeside, endBeside, spanOf, spansOf, Apart, none, one, more}
+use Rattle.evidence.specs.Spans.{uncutStart, uncutEnd, startBeside, endBeside, spanOf, spansOf, Apart, none, one, more}
 use Rattle.evidence.specs.declared.frames.Nearest.{Nearest}
 use Rattle.evidence.specs.declared.frames.Nearest.the-variants.{None, At}
 use Rattle.evidence.proofs.Neighbours.{IsHighest, IsLowest, highest-is, lowest-is, lowest}

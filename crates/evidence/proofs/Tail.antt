@@ -1,7 +1,7 @@
 -- Laws of a creaky tail: one turn and the end of the walk down to the last pitched frame, and of the walk along the run.
 use Prim.Native.Nat.{ℕ, zero, suc, _+_, _-_, _≤_, _<_, zero-le, suc-le-suc}
 use mathlib.Core.Bool.{Bool, true, false, cond}
-use mathlib.Core.Path.{_≡_, refl, sym, ap, _∙_}
+use mathlib.Core.Path.{_≡_, refl, ap, _∙_}
 use mathlib.Core.List.{List}
 use native.Mathlib.Nat.{not-suc-le-zero, le-of-suc-le-suc}
 use native.Mathlib.Numerals.{add-one, sub-one}
@@ -9,7 +9,6 @@ use native.Mathlib.Omega.{arith}
 use borrow.Author.Tests.{le-leb, lt-leb}
 use Rattle.evidence.specs.Masks.{marked}
 use Rattle.evidence.specs.CreakyTail.{lastPitched, inTail, runFrom}
-use Rattle.evidence.specs.declared.frames.Nearest.{Nearest}
 use Rattle.evidence.specs.declared.frames.Nearest.the-variants.{None, At}
 
 module _ (pitched : List ℕ) (start : ℕ) where

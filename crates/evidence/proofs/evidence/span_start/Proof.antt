@@ -1,5 +1,4 @@
 -- `span_start`: the left neighbour lies below the frame, and each arm is its case of the definition.
-use Prim.Native.Nat.{_<_}
 use mathlib.Core.Path.{sym, _∙_}
 use native.Mathlib.Omega.{arith}
 use borrow.Author.Needs.{needs}

@@ -1,13 +1,11 @@
 -- `tbu_spans`: the tests are those of `tbuSpansOf` in its order, and the output is written only after the last.
-use Prim.Native.Nat.{_+_, _*_, _≤_}
-use mathlib.Core.Path.{_≡_, refl, sym, ap, _∙_}
+use mathlib.Core.Path.{_≡_, refl, ap}
 use mathlib.Core.Bool.{false, _||_}
 use native.Mathlib.Omega.{arith}
 use lib.Dec.{ltb}
 use lib.ListN.{length}
 use borrow.Author.Needs.{needs}
 use borrow.Author.Tests.{lt-ltb, le-ltb}
-use Rattle.evidence.specs.Frames.{ascending}
 use Rattle.evidence.specs.Outcome.{accepted, anyAbove, lastFrame}
 use Rattle.evidence.specs.Spans.{tbuSpansOf}
 use Rattle.evidence.proofs.Ascending.{ascending-le}

@@ -1,9 +1,9 @@
 -- `write_spans`: the words written and those of the spans that the walk has left are all, and the cells after them are untouched.
 use Prim.Native.Nat.{ℕ, _+_, _-_, _*_, _≤_}
-use mathlib.Core.Path.{_≡_, refl, sym, ap, subst, _∙_}
+use mathlib.Core.Path.{_≡_, sym, ap, _∙_}
 use mathlib.Core.List.{List, [], _∷_, map}
 use native.Mathlib.Omega.{arith}
-use lib.ListN.{length, set, length-set}
+use lib.ListN.{length, length-set}
 use borrow.Author.Needs.{needs}
 use Rattle.evidence.specs.Frames.{lowestFrom}
 use Rattle.evidence.specs.Spans.{spanOf, spansOf, wordsOf, Writable}
