@@ -1,28 +1,27 @@
 -- From counts and places to what they stand for: filler costs between edges, and the anchors ahead.
-use Prim.Native.Nat.{ℕ, zero, suc, _+_, _-_, _≤_, _<_, _^_, min}
+use Prim.Native.Nat.{ℕ, _+_, _≤_, _<_, _^_}
 use mathlib.Core.Path.{_≡_, refl, sym, ap, ap₂, _∙_}
-use mathlib.Core.List.{List, [], _∷_, map, tail}
+use mathlib.Core.List.{List, tail}
 use native.Mathlib.Omega.{arith}
-use lib.Dec.{ltb}
 use lib.ListN.{length, getD, drop, length-map}
 use lib.Ieee.{Float, neg}
 use Rattle.phrase.specs.declared.costs.Costs.{Costs}
 use Rattle.phrase.specs.Filler.{fillerCost}
-use Rattle.paths.specs.Frames.{Increasing, speechIn}
-use Rattle.paths.specs.Anchors.{Anchor, select, numbered, keptIn, heldIn}
+use Rattle.paths.specs.Frames.{speechIn}
+use Rattle.paths.specs.Anchors.{Anchor, keptIn, heldIn}
 use Rattle.paths.specs.LookAhead.{ahead, frameOr, rowOr, firstAhead, secondAhead, rowAhead}
 use Rattle.stages.specs.Tables.{beyond}
 use Rattle.stages.specs.Listed.{padded, tableOf}
 use Rattle.stages.specs.Edges.{edge, speechBefore}
-use Rattle.stages.specs.Kept.{framesOf, rowsOf, room, Keeps}
+use Rattle.stages.specs.Kept.{framesOf, rowsOf, room}
 use Rattle.stages.specs.Places.{Climbs, countBelow, placeBefore}
-use Rattle.stages.specs.Filler.{Rises, Ascends, stretch, startAt, noCost, Priced}
+use Rattle.stages.specs.Filler.{Ascends, stretch, startAt, noCost, Priced}
 use Rattle.stages.specs.Ahead.{Within, LooksAhead}
 use Rattle.stages.specs.Parts.{Fit, FitList, costOf, Fills, Sees}
 use Rattle.stages.proofs.Listed.{table-at, table-same, length-table, length-padded}
 use Rattle.stages.proofs.Edges.{edge-in, edge-end, edges-climb}
 use Rattle.stages.proofs.Speech.{speech-split}
-use Rattle.stages.proofs.Places.{either, below-le, below-mono, climbs-padded, count-padded}
+use Rattle.stages.proofs.Places.{either, below-le, climbs-padded, count-padded}
 use Rattle.stages.proofs.Held.{Below, kept-below, kept-climbs, kept-few, held-count, held-on, all-below, ahead-drop, figure-from, tail-drop}
 
 -- What holds of the kept anchors of a list of the record.

@@ -1,9 +1,8 @@
 -- Each place is found from the one before, which is not above it.
-use Prim.Native.Nat.{ℕ, _+_, _≤_, _<_, _-_}
-use mathlib.Core.Path.{_≡_, refl, sym, ap, _∙_}
-use mathlib.Core.List.{List}
+use Prim.Native.Nat.{ℕ, _+_, _≤_, _-_}
+use mathlib.Core.Path.{_≡_, sym, ap, _∙_}
 use native.Mathlib.Omega.{arith}
-use lib.ListN.{length, getD, set}
+use lib.ListN.{length, getD}
 use Rattle.stages.specs.Listed.{tableOf}
 use Rattle.stages.specs.Edges.{edge}
 use Rattle.stages.specs.Tables.{beyond}

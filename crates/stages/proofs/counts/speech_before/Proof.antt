@@ -1,12 +1,11 @@
 -- The count so far is that up to the boundary before; each stretch is counted once and carried on.
 use Prim.Native.Nat.{ℕ, _+_, _≤_, _<_, _-_}
-use mathlib.Core.Path.{_≡_, refl, sym, ap, ap₂, _∙_}
-use mathlib.Core.List.{List}
+use mathlib.Core.Path.{_≡_, sym, ap, _∙_}
 use native.Mathlib.Omega.{arith}
 use borrow.Author.Needs.{needs}
-use lib.ListN.{length, getD, set}
+use lib.ListN.{length, getD}
 use Rattle.paths.specs.Frames.{speechIn}
-use Rattle.stages.specs.Listed.{padded, listed, tableOf}
+use Rattle.stages.specs.Listed.{tableOf}
 use Rattle.stages.specs.Edges.{edge, speechBefore}
 use Rattle.stages.proofs.Listed.{table-none, table-more}
 use Rattle.stages.proofs.Edges.{edge-in, edge-end, ascends}

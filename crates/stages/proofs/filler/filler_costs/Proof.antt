@@ -1,10 +1,10 @@
 -- Each turn fills the entries of one boundary.
-use Prim.Native.Nat.{ℕ, _+_, _≤_, _<_, _-_}
+use Prim.Native.Nat.{_+_, _≤_, _-_}
 use mathlib.Core.Path.{_≡_, ap}
 use native.Mathlib.Omega.{arith}
 use borrow.Author.Needs.{needs}
 use lib.Ieee.{neg}
-use Rattle.stages.specs.Filler.{Rises, stretch, startAt, noCost, Priced}
+use Rattle.stages.specs.Filler.{stretch, startAt, noCost, Priced}
 use Rattle.stages.proofs.Listed.{table-none, table-more}
 use Rattle.stages.proofs.filler.filler_costs.Statement.{statement}
 use Rattle.stages.proofs.filler.filler_costs.Tie as tie
