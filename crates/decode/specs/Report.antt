@@ -3,7 +3,6 @@
 -- its path frames, then `clip_unanchored`."
 use Prim.Native.Nat.{ℕ}
 use mathlib.Core.List.{List, [], _∷_, map, zipWith}
-use mathlib.Core.Option.{Option, none, some}
 use Rattle.phrase.specs.Phrase.{Phrase, Stage, Speech, silent, spoken}
 use Rattle.paths.specs.declared.passes.Pass.{Pass}
 use Rattle.paths.specs.declared.passes.Pass.the-variants.{NucleiStrict, CountStrict, CountRelaxed, NucleiRelaxed}
@@ -13,9 +12,9 @@ use Rattle.paths.specs.Anchors.{Anchor, kept, heldIn}
 use Rattle.paths.specs.StageProblem.{boundary}
 use Rattle.paths.specs.LookAhead.{rowOr}
 use Rattle.evidence.specs.Spans.{spanOf}
-use Rattle.evidence.specs.declared.evidence.Span.{Span}
+use Rattle.clip.specs.declared.clip.Span.{Span}
+use Rattle.clip.specs.Clip.{Placed, anchored, unanchored, reported}
 use Rattle.entries.specs.Entry.{ReportedUnit, noRow}
-use Rattle.decode.specs.Clip.{PathUnit, clipped}
 
 -- the stage that a pass searches
 abbrev pub stageOf : Phrase → Pass → Stage
@@ -33,35 +32,38 @@ abbrev pub highEdge : Speech → ℕ
 highEdge silent = 0
 highEdge (spoken start end) = end
 
--- The span of a row, among all frames that the stage lists: those outside the mask are dropped from the search only.
-abbrev pub rowSpan : Phrase → Stage → ℕ → Span
-rowSpan phrase stage frame = spanOf (stage .anchors) (stage .boundaries) (lowEdge (phrase .speech)) (highEdge (phrase .speech)) frame
+-- The span of an anchor's row, among all frames that the stage lists: those outside the mask are dropped from the search only.
+unfoldable pub rowSpan : Phrase → Stage → ℕ → Span
+unfolding spanOf
+rowSpan phrase stage frame =
+    let span = spanOf (stage .anchors) (stage .boundaries) (lowEdge (phrase .speech)) (highEdge (phrase .speech)) frame in
+    record { start = span .start; end = span .end }
+
+-- the path frames of a unit, from boundary to boundary
+abbrev pub pathSpan : Stage → Bounds → Span
+pathSpan stage unit = record { start = boundary stage (unit .first); end = boundary stage (unit .last) }
 
 -- the anchors that a unit holds: one, or none in a relaxed pass
 abbrev pub heldBy : Phrase → Stage → Bounds → List Anchor
 heldBy phrase stage unit = heldIn (kept phrase stage) (boundary stage (unit .first)) (boundary stage (unit .last))
 
--- the row's span of the anchor held, if there is one
-abbrev pub spanHeld : Phrase → Stage → List Anchor → Option Span
-spanHeld phrase stage [] = none
-spanHeld phrase stage (anchor ∷ more) = some (rowSpan phrase stage (anchor .frame))
+-- a unit before clipping, by the anchors that it holds
+unfoldable pub placedBy : Phrase → Stage → Bounds → List Anchor → Placed
+unfolding rowSpan
+placedBy phrase stage unit [] = unanchored (pathSpan stage unit)
+placedBy phrase stage unit (anchor ∷ more) = anchored (rowSpan phrase stage (anchor .frame))
 
--- a unit before clipping
-abbrev pub placed : Phrase → Stage → Bounds → PathUnit
-placed phrase stage unit = record {
-  from = boundary stage (unit .first);
-  to = boundary stage (unit .last);
-  rowSpan = spanHeld phrase stage (heldBy phrase stage unit);
-}
+abbrev pub placed : Phrase → Stage → Bounds → Placed
+placed phrase stage unit = placedBy phrase stage unit (heldBy phrase stage unit)
 
--- a unit's span once it is clipped, with the row of the anchor held
-abbrev pub reported : List Anchor → Span → ReportedUnit
-reported anchors span = record { start = span .start; end = span .end; row = rowOr noRow anchors }
+-- a reported span with the row of the anchor that the unit holds
+abbrev pub reportedUnit : List Anchor → Span → ReportedUnit
+reportedUnit anchors span = record { start = span .start; end = span .end; row = rowOr noRow anchors }
 
 -- the units of a stage, reported
 unfoldable pub reportedIn : Phrase → Stage → List Bounds → List ReportedUnit
-unfolding heldIn spanOf
-reportedIn phrase stage units = zipWith reported (map (heldBy phrase stage) units) (clipped (map (placed phrase stage) units))
+unfolding heldIn placedBy reported
+reportedIn phrase stage units = zipWith reportedUnit (map (heldBy phrase stage) units) (reported (map (placed phrase stage) units))
 
 -- the units of a path that a pass found
 abbrev pub reportedUnits : Phrase → Pass → Path → List ReportedUnit
