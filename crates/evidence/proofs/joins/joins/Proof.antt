@@ -23,7 +23,8 @@ unfit-requires-2 c κs = search needs
 
 returns-2 : tie.Need-returns-2
 unfolding joinsOf
-returns-2 c = passed _ (c .before .before .before .if1 .left) (taken _ (rw (c .before .before .unfit .ensures, c .before .unfit2 .ensures) at (c .if2 .taken)))
+returns-2 c =
+    passed _ (c .before .before .before .if1 .left) (taken _ (rw (c .before .before .unfit .ensures, c .before .unfit2 .ensures) at (c .if2 .taken)))
 
 joined-requires : tie.Need-joined-requires
 joined-requires c κs = search needs
@@ -33,7 +34,9 @@ joined-requires-2 c κs = search needs
 
 returns-3 : tie.Need-returns-3
 unfolding joinsOf edges
-returns-3 c = passed _ (c .before .before .before .before .before .if1 .left) (passed _ (rw (c .before .before .before .before .unfit .ensures, c .before .before .before .unfit2 .ensures) at (c .before .before .if2 .left)) (ap₂ edges (c .before .joined .ensures) (c .joined2 .ensures)))
+returns-3 c =
+    let fit = rw (c .before .before .before .before .unfit .ensures, c .before .before .before .unfit2 .ensures) at (c .before .before .if2 .left) in
+    passed _ (c .before .before .before .before .before .if1 .left) (passed _ fit (ap₂ edges (c .before .joined .ensures) (c .joined2 .ensures)))
 
 pub joins-spec : {M : Type 1} → statement M
 joins-spec =
