@@ -10,10 +10,11 @@ use Rattle.phrase.specs.Filler.{fillerCost}
 use Rattle.paths.specs.Frames.{speechIn}
 use Rattle.paths.specs.Anchors.{Anchor, keptIn, heldIn}
 use Rattle.paths.specs.LookAhead.{ahead, frameOr, rowOr, firstAhead, secondAhead, rowAhead}
+use Rattle.stages.specs.Room.{most, edges, room}
 use Rattle.stages.specs.Tables.{beyond}
 use Rattle.stages.specs.Listed.{padded, tableOf}
 use Rattle.stages.specs.Edges.{edge, speechBefore}
-use Rattle.stages.specs.Kept.{framesOf, rowsOf, room}
+use Rattle.stages.specs.Kept.{framesOf, rowsOf}
 use Rattle.stages.specs.Places.{Climbs, countBelow, placeBefore}
 use Rattle.stages.specs.Filler.{Ascends, stretch, startAt, noCost, Priced}
 use Rattle.stages.specs.Ahead.{Within, LooksAhead}
@@ -28,7 +29,7 @@ use Rattle.stages.proofs.Held.{Below, kept-below, kept-climbs, kept-few
 pub record Orderly (mask : List ℕ) (anchors : List Anchor) : Type 0 where
   pub below : Below (length mask) anchors
   pub climbs : Climbs 0 beyond (framesOf anchors)
-  pub few : length anchors ≤ 64
+  pub few : length anchors ≤ most
 
 pub kept-orderly : (mask : List ℕ) (row : ℕ) (frames : List ℕ) → length mask < 2 ^ 32 → FitList frames → Orderly mask (keptIn mask row frames)
 kept-orderly mask row frames h fit = record {
@@ -57,9 +58,9 @@ module _ (mask : List ℕ) (anchors : List Anchor) (orderly : Orderly mask ancho
 -- The places of the boundaries of a stage, among the kept anchors of a list.
 module _ (mask : List ℕ) (anchors : List Anchor) (orderly : Orderly mask anchors) (frames : List ℕ) (framed : frames ≡ padded (framesOf anchors) room beyond)
     (bounds : List ℕ) (fit : Fit mask bounds) (small : (j : ℕ) → getD bounds j 0 ≤ beyond)
-    (places : List ℕ) (placed : places ≡ tableOf (placeBefore frames bounds) (length bounds + 1) 65 0) where
+    (places : List ℕ) (placed : places ≡ tableOf (placeBefore frames bounds) (length bounds + 1) edges 0) where
   table-place : (j : ℕ) → j ≤ length bounds → getD places j 0 ≡ placeBefore frames bounds j
-  table-place j h = ap (λ (l : List ℕ). getD l j 0) placed ∙ table-at (placeBefore frames bounds) (length bounds + 1) 65 0 0 j (omega arith)
+  table-place j h = ap (λ (l : List ℕ). getD l j 0) placed ∙ table-at (placeBefore frames bounds) (length bounds + 1) edges 0 0 j (omega arith)
 
   place-at : (j : ℕ) → j < length bounds → getD places j 0 ≡ countBelow (framesOf anchors) (getD bounds j 0)
   place-at j h =
@@ -94,8 +95,8 @@ module _ (mask : List ℕ) (anchors : List Anchor) (orderly : Orderly mask ancho
       (edges-climb bounds (length mask) (fit .listed .ascending) i j h k)
       ∙ ap (λ (n : ℕ). n + length (heldIn anchors (edge bounds (length mask) i) (edge bounds (length mask) j))) (sym (held-at i (omega arith)))
 
-  places-long : length places ≡ 65
-  places-long = ap length placed ∙ length-table (placeBefore frames bounds) (length bounds + 1) 65 0 (omega (arith, fit .listed .short))
+  places-long : length places ≡ edges
+  places-long = ap length placed ∙ length-table (placeBefore frames bounds) (length bounds + 1) edges 0 (omega (arith, fit .listed .short))
 
   pub places-ascend : Ascends places (length bounds)
   places-ascend i j h k = record {
@@ -104,7 +105,7 @@ module _ (mask : List ℕ) (anchors : List Anchor) (orderly : Orderly mask ancho
     rise = omega (arith, held-between i j h k);
   }
 
-  place-few : (j : ℕ) → j < length bounds → getD places j 0 ≤ 64
+  place-few : (j : ℕ) → j < length bounds → getD places j 0 ≤ most
   place-few j h = omega (arith, place-at j h, below-le (framesOf anchors) (getD bounds j 0), length-map anchors (λ (a : Anchor). a .frame), orderly .few)
 
   -- What the look ahead reads at the places.
@@ -126,13 +127,13 @@ module _ (mask : List ℕ) (anchors : List Anchor) (orderly : Orderly mask ancho
     pub sees : (first second row : List ℕ) → LooksAhead frames rows places (length bounds) first second row → Sees anchors bounds first second row
     unfolding firstAhead secondAhead rowAhead
     sees first second row looks = record {
-      firsts = looks .firsts ∙ table-same (λ j. getD frames (getD places j 0) 0) (λ j. firstAhead beyond anchors (getD bounds j 0)) (length bounds) 64 0
+      firsts = looks .firsts ∙ table-same (λ j. getD frames (getD places j 0) 0) (λ j. firstAhead beyond anchors (getD bounds j 0)) (length bounds) most 0
           (λ j h. frame-from (getD places j 0) (omega (arith, place-few j h)) ∙ ap (frameOr beyond) (from-place j h));
-      seconds = looks .seconds ∙ table-same (λ j. getD frames (getD places j 0 + 1) 0) (λ j. secondAhead beyond anchors (getD bounds j 0)) (length bounds) 64 0
+      seconds = looks .seconds ∙ table-same (λ j. getD frames (getD places j 0 + 1) 0) (λ j. secondAhead beyond anchors (getD bounds j 0)) (length bounds) most 0
           (λ j h.
           frame-from (getD places j 0 + 1) (omega (arith, place-few j h))
           ∙ ap (frameOr beyond) (sym (tail-drop anchors (getD places j 0)) ∙ ap tail (from-place j h)));
-      ranks = looks .ranks ∙ table-same (λ j. getD rows (getD places j 0) 0) (λ j. rowAhead 0 anchors (getD bounds j 0)) (length bounds) 64 0
+      ranks = looks .ranks ∙ table-same (λ j. getD rows (getD places j 0) 0) (λ j. rowAhead 0 anchors (getD bounds j 0)) (length bounds) most 0
           (λ j h.
           ap (λ (l : List ℕ). getD l (getD places j 0) 0) rowed
           ∙ figure-from (λ a. a .row) (rowOr 0) (λ _ _. refl) anchors room (getD places j 0) (omega (arith, place-few j h))
@@ -150,9 +151,9 @@ module _ (mask : List ℕ) (anchors : List Anchor) (orderly : Orderly mask ancho
       )
 
   -- The filler costs by the counts.
-  module _ (speech : List ℕ) (counted : speech ≡ tableOf (speechBefore mask bounds) (length bounds + 1) 65 0) where
+  module _ (speech : List ℕ) (counted : speech ≡ tableOf (speechBefore mask bounds) (length bounds + 1) edges 0) where
     speech-at : (j : ℕ) → j ≤ length bounds → getD speech j 0 ≡ speechIn mask 0 (edge bounds (length mask) j)
-    speech-at j h = ap (λ (l : List ℕ). getD l j 0) counted ∙ table-at (speechBefore mask bounds) (length bounds + 1) 65 0 0 j (omega arith)
+    speech-at j h = ap (λ (l : List ℕ). getD l j 0) counted ∙ table-at (speechBefore mask bounds) (length bounds + 1) edges 0 0 j (omega arith)
 
     speech-between : (i j : ℕ) → i ≤ j → j ≤ length bounds
         → getD speech j 0 ≡ getD speech i 0 + speechIn mask (edge bounds (length mask) i) (edge bounds (length mask) j)
@@ -162,8 +163,8 @@ module _ (mask : List ℕ) (anchors : List Anchor) (orderly : Orderly mask ancho
         (edges-climb bounds (length mask) (fit .listed .ascending) i j h k)
         ∙ ap (λ (n : ℕ). n + speechIn mask (edge bounds (length mask) i) (edge bounds (length mask) j)) (sym (speech-at i (omega arith)))
 
-    speech-long : length speech ≡ 65
-    speech-long = ap length counted ∙ length-table (speechBefore mask bounds) (length bounds + 1) 65 0 (omega (arith, fit .listed .short))
+    speech-long : length speech ≡ edges
+    speech-long = ap length counted ∙ length-table (speechBefore mask bounds) (length bounds + 1) edges 0 (omega (arith, fit .listed .short))
 
     pub speech-ascends : Ascends speech (length bounds)
     speech-ascends i j h k = record {
@@ -181,13 +182,13 @@ module _ (mask : List ℕ) (anchors : List Anchor) (orderly : Orderly mask ancho
         → Fills costs mask anchors bounds start gap stop
     unfolding costOf
     fills costs start gap stop priced = record {
-      started = priced .started ∙ table-same (startAt costs speech places) (λ j. neg (costOf costs mask anchors 0 (edge bounds (length mask) j))) (length bounds) 64 noCost
+      started = priced .started ∙ table-same (startAt costs speech places) (λ j. neg (costOf costs mask anchors 0 (edge bounds (length mask) j))) (length bounds) most noCost
           (λ j h. ap₂ (λ (s n : ℕ). neg (fillerCost costs s n)) (speech-at j (omega arith)) (held-at j (omega arith)));
       gapped = priced .gapped
           ∙ table-same (λ j. stretch costs speech places j (j + 1)) (λ j. costOf costs mask anchors (edge bounds (length mask) j) (edge bounds (length mask) (j + 1)))
-          (length bounds) 64 noCost (λ j h. stretch-is costs j (j + 1) (omega arith) (omega arith));
+          (length bounds) most noCost (λ j h. stretch-is costs j (j + 1) (omega arith) (omega arith));
       stopped = priced .stopped
-          ∙ table-same (λ j. stretch costs speech places j (length bounds)) (λ j. costOf costs mask anchors (edge bounds (length mask) j) (length mask)) (length bounds) 64 noCost
+          ∙ table-same (λ j. stretch costs speech places j (length bounds)) (λ j. costOf costs mask anchors (edge bounds (length mask) j) (length mask)) (length bounds) most noCost
           (λ j h.
           stretch-is costs j (length bounds) (omega arith) (omega arith)
           ∙ ap (λ (b : ℕ). costOf costs mask anchors (edge bounds (length mask) j) b) (edge-end bounds (length mask)));

@@ -4,6 +4,7 @@ use mathlib.Core.Path.{_≡_, ap}
 use native.Mathlib.Omega.{arith}
 use borrow.Author.Needs.{needs}
 use lib.Ieee.{neg}
+use Rattle.stages.specs.Room.{most}
 use Rattle.stages.specs.Filler.{stretch, startAt, noCost, Priced}
 use Rattle.stages.proofs.Listed.{table-none, table-more}
 use Rattle.stages.proofs.filler.filler_costs.Statement.{statement}
@@ -23,9 +24,9 @@ loop-holds c =
     let size = c .before .before .args .size in (
       omega arith,
       record {
-        started = table-none (startAt costs speech nuclei) 64 noCost;
-        gapped = table-none (λ j. stretch costs speech nuclei j (j + 1)) 64 noCost;
-        stopped = table-none (λ j. stretch costs speech nuclei j size) 64 noCost;
+        started = table-none (startAt costs speech nuclei) most noCost;
+        gapped = table-none (λ j. stretch costs speech nuclei j (j + 1)) most noCost;
+        stopped = table-none (λ j. stretch costs speech nuclei j size) most noCost;
       },
     )
 
@@ -100,9 +101,9 @@ loop-again c =
     let l = c .before .before .before .before .before .before .loop in (
       omega arith,
       record {
-        started = table-more (startAt costs speech nuclei) (l .j) 64 noCost _ (l .start) (l .inv .1 .started) (omega arith) (ap neg (c .before .before .cost .ensures));
-        gapped = table-more (λ j. stretch costs speech nuclei j (j + 1)) (l .j) 64 noCost _ (l .gap) (l .inv .1 .gapped) (omega arith) (c .before .between .ensures);
-        stopped = table-more (λ j. stretch costs speech nuclei j size) (l .j) 64 noCost _ (l .stop) (l .inv .1 .stopped) (omega arith) (c .between2 .ensures);
+        started = table-more (startAt costs speech nuclei) (l .j) most noCost _ (l .start) (l .inv .1 .started) (omega arith) (ap neg (c .before .before .cost .ensures));
+        gapped = table-more (λ j. stretch costs speech nuclei j (j + 1)) (l .j) most noCost _ (l .gap) (l .inv .1 .gapped) (omega arith) (c .before .between .ensures);
+        stopped = table-more (λ j. stretch costs speech nuclei j size) (l .j) most noCost _ (l .stop) (l .inv .1 .stopped) (omega arith) (c .between2 .ensures);
       },
     )
 
