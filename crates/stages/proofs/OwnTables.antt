@@ -11,6 +11,7 @@ use Rattle.phrase.specs.Phrase.{Phrase, Stage}
 use Rattle.phrase.specs.Filler.{fillerCost}
 use Rattle.paths.specs.Frames.{speechIn}
 use Rattle.paths.specs.Anchors.{keptIn, kept, heldIn}
+use Rattle.paths.specs.Passes.{nonEmpty, hasNucleus}
 use Rattle.paths.specs.Units.{shortestUnit, longestUnit}
 use Rattle.paths.specs.LookAhead.{firstAhead, secondAhead, rowAhead}
 use Rattle.paths.specs.StageProblem.{cost, boundary}
@@ -76,3 +77,9 @@ made mask nuclei anchors firstRow bounds duration costs t e = record {
   exact = e;
   tabled = λ phrase stage parts. subst (Tabled phrase stage) (sym e) (tables-of mask nuclei anchors firstRow bounds duration costs phrase stage parts);
 }
+
+-- what `has_nucleus` answers, of a phrase with this mask and these nuclei
+pub nucleus-of : (phrase : Phrase) → phrase .nuclei .firstRow ≡ 0
+    → nonEmpty (keptIn (phrase .mask) 0 (phrase .nuclei .anchors)) ≡ hasNucleus phrase
+unfolding hasNucleus
+nucleus-of phrase e = ap (λ (row : ℕ). nonEmpty (keptIn (phrase .mask) row (phrase .nuclei .anchors))) (sym e)

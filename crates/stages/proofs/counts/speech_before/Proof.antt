@@ -44,7 +44,9 @@ cast-end : tie.Need-cast-end Inv-loop μ-loop
 cast-end c = omega arith
 
 loop-holds : tie.Need-loop-holds Inv-loop μ-loop
-loop-holds c = (omega arith, table-none (speechBefore (c .before .before .args .mask .now) (c .before .before .args .bounds .now)) edges 0, speech-none (c .before .before .args .mask .now), λ _. omega arith)
+loop-holds c =
+    let args = c .before .before .args in
+    (omega arith, table-none (speechBefore (args .mask .now) (args .bounds .now)) edges 0, speech-none (args .mask .now), λ _. omega arith)
 
 mul-to : tie.Need-mul-to Inv-loop μ-loop
 mul-to c = omega arith
@@ -56,7 +58,9 @@ speech-in-requires : tie.Need-speech-in-requires Inv-loop μ-loop
 speech-in-requires c κs = search needs
 
 add-count : tie.Need-add-count Inv-loop μ-loop
-add-count c = omega (arith, counted c, speech-le (c .before .before .before .before .before .before .args .mask .now) 0 (getD (c .before .before .before .before .before .before .args .bounds .now) (c .before .before .before .loop .j) 0))
+add-count c =
+    let args = c .before .before .before .before .before .before .args in
+    omega (arith, counted c, speech-le (args .mask .now) 0 (getD (args .bounds .now) (c .before .before .before .loop .j) 0))
 
 mul-counts : tie.Need-mul-counts Inv-loop μ-loop
 mul-counts c = omega arith
@@ -86,7 +90,9 @@ speech-in-requires-2 : tie.Need-speech-in-requires-2 Inv-loop μ-loop
 speech-in-requires-2 c κs = search needs
 
 add-counts : tie.Need-add-counts Inv-loop μ-loop
-add-counts c = omega (arith, counted-all c, speech-le (c .before .before .before .before .before .args .mask .now) 0 (length (c .before .before .before .before .before .args .mask .now)))
+add-counts c =
+    let mask = c .before .before .before .before .before .args .mask .now in
+    omega (arith, counted-all c, speech-le mask 0 (length mask))
 
 mul-counts-2 : tie.Need-mul-counts-2 Inv-loop μ-loop
 mul-counts-2 c = omega arith

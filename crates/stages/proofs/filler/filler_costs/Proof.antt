@@ -34,16 +34,22 @@ mul-cost : tie.Need-mul-cost Inv-loop μ-loop
 mul-cost c = omega arith
 
 shared-slice-read-cost : tie.Need-shared-slice-read-cost Inv-loop μ-loop
-shared-slice-read-cost c = c .before .before .before .before .before .pre .1 (c .before .before .loop .j) (c .before .before .loop .j) (omega arith) (omega arith) .lower
+shared-slice-read-cost c =
+    let j = c .before .before .loop .j in
+    c .before .before .before .before .before .pre .1 j j (omega arith) (omega arith) .lower
 
 mul-cost-2 : tie.Need-mul-cost-2 Inv-loop μ-loop
 mul-cost-2 c = omega arith
 
 shared-slice-read-cost-2 : tie.Need-shared-slice-read-cost-2 Inv-loop μ-loop
-shared-slice-read-cost-2 c = c .before .before .before .before .before .before .pre .2 (c .before .before .before .loop .j) (c .before .before .before .loop .j) (omega arith) (omega arith) .lower
+shared-slice-read-cost-2 c =
+    let j = c .before .before .before .loop .j in
+    c .before .before .before .before .before .before .pre .2 j j (omega arith) (omega arith) .lower
 
 cast-cost : tie.Need-cast-cost Inv-loop μ-loop
-cast-cost c = omega (arith, c .before .before .before .before .before .before .pre .2 (c .before .before .before .loop .j) (c .before .before .before .before .before .before .args .size) (omega arith) (omega arith) .rise)
+cast-cost c =
+    let start = c .before .before .before .before .before .before in
+    omega (arith, start .pre .2 (c .before .before .before .loop .j) (start .args .size) (omega arith) (omega arith) .rise)
 
 cost-requires : tie.Need-cost-requires Inv-loop μ-loop
 cost-requires c κs = search needs
