@@ -12,9 +12,10 @@ use lib.Seq.{take-suc, length-take-le}
 use Rattle.paths.specs.Frames.{within}
 use Rattle.paths.specs.Passes.{nonEmpty}
 use Rattle.paths.specs.Anchors.{Anchor, select, numbered, keptIn}
+use Rattle.stages.specs.Room.{room}
 use Rattle.stages.specs.Listed.{padded}
 use Rattle.stages.specs.Tables.{beyond}
-use Rattle.stages.specs.Kept.{room, Keeps}
+use Rattle.stages.specs.Kept.{Keeps}
 use Rattle.stages.proofs.Listed.{padded-none, padded-more}
 
 select-append : (test : Anchor → Bool) (xs ys : List Anchor) → select test (xs ++ ys) ≡ select test xs ++ select test ys
