@@ -12,7 +12,6 @@ use Rattle.record.specs.Layout.{layoutOf}
 use Rattle.record.specs.Conditions.{shortDesk}
 use Rattle.record.specs.Refusals.{Rule, rule, firstOf, ownRules, refusalOf, refusalWith, answer, checkedOf, checkedWith}
 use Rattle.record.specs.Accepted.{Laid}
-use Rattle.record.specs.declared.layout.Section.{Section}
 use Rattle.record.specs.declared.layout.Layout.{Layout}
 use Rattle.record.specs.declared.refusal.Refusal.{Refusal}
 use Rattle.record.specs.declared.refusal.Refusal.the-variants.{Desk}

@@ -16,7 +16,6 @@ use record::bytes::u32_at;
 use record::check::check;
 use record::check::check_areas;
 use record::refusal::Checked;
-ghost use mathlib.Core.Path.{_≡_};
 ghost use Prim.Native.Nat.{_+_, _≤_, _<_};
 ghost use lib.ListN.{length};
 

@@ -1,6 +1,6 @@
-use Prim.Native.Nat.{_-_, _≤_}
+-- Each case moves on; the space keeps its length.
+use Prim.Native.Nat.{_-_}
 use mathlib.Core.Path.{_≡_, sym}
-use native.Mathlib.Omega.{arith}
 use borrow.Author.Needs.{needs}
 use lib.ListN.{length}
 use lib.Seq.{length-take-le}
