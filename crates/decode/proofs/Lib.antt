@@ -5,3 +5,4 @@ pub mod Demands
 pub mod Decodes
 pub mod OneOutcome
 mod Group
+mod Examples
