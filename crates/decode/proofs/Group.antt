@@ -52,7 +52,7 @@ unfoldable pub workedEntry : Phrase → Candidate → Entry
 unfolding entryBy chosen hasNucleus keptIn cost admitsUnit unitValueOf add sub mul neg ofInt lt isNan clampedLog clamped narrowed reportedIn zipWith unitsOf highestBelow lowestFrom
 workedEntry = entryOf
 
-unfoldable workedWords : ℕ → List ℕ → List ℕ
+unfoldable pub workedWords : ℕ → List ℕ → List ℕ
 unfolding workedEntry allWords rankOnto totalBefore toBits phraseOf layoutOf layoutFrom trailerOf u32At u64At listed ofBits ofFields trailingZeros
 workedWords most bytes = allWords most (ranked (entriesOf (phraseOf bytes)))
 
@@ -65,7 +65,7 @@ sample-words : allWords (edition1 .units) (ranked (entriesOf (phraseOf sample)))
 unfolding workedWords sample
 sample-words = refl
 
-sample-candidates : length (phraseOf sample .candidates) ≡ 2
+pub sample-candidates : length (phraseOf sample .candidates) ≡ 2
 unfolding workedWords sample
 sample-candidates = refl
 

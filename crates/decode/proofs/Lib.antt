@@ -6,3 +6,4 @@ pub mod Decodes
 pub mod OneOutcome
 mod Group
 mod Examples
+mod ShutOut
