@@ -7,7 +7,7 @@ use mathlib.Core.Path.{_≡_, refl, sym, ap, subst, _∙_}
 use native.Mathlib.Omega.{arith}
 use lib.ListN.{length, getD, length-map}
 use Rattle.ieee.proofs.NarrowClamp.{clampedLog-comparable}
-use Rattle.phrase.specs.Phrase.{Phrase, Candidate}
+use Rattle.phrase.specs.Phrase.{Candidate}
 use Rattle.paths.specs.Demand.{Answer, answerNumber, Demanded}
 use Rattle.paths.specs.Search.{chosen}
 use Rattle.paths.proofs.Demanded.{Alike, paths-alike, none-alike, unvoiced-alike}

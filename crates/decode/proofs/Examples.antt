@@ -1,7 +1,7 @@
 -- Worked examples of an entry, one for each pass and each misreading that the laws leave open. Figures are zero and every frame is speech
 -- unless said.
 use Prim.Native.Nat.{ℕ}
-use mathlib.Core.List.{List, [], _∷_}
+use mathlib.Core.List.{[], _∷_}
 use mathlib.Core.Path.{_≡_, refl}
 use mathlib.Core.Bool.{true}
 use lib.IntN.{negsuc}

@@ -3,11 +3,11 @@ use Prim.Native.Nat.{ℕ, _*_}
 use mathlib.Core.Bool.{Bool, true, false, cond}
 use mathlib.Core.List.{List, [], _∷_, _++_, map, zipWith}
 use mathlib.Core.Option.{Option, none, some}
-use mathlib.Core.Path.{_≡_, refl, sym, ap, _∙_}
+use mathlib.Core.Path.{_≡_, refl, ap, _∙_}
 use lib.ListN.{length, replicate, drop}
 use lib.IntN.{pos, negsuc}
 use lib.Count.{trailingZeros}
-use lib.Ieee.{Float, fin, binary32, toBits, add, sub, mul, neg, ofInt, lt, le, eq, round, size, span, climb, units, odd, ofBits, ofFields, isNan}
+use lib.Ieee.{Float, fin, binary32, toBits, add, sub, mul, neg, ofInt, lt, round, ofBits, ofFields, isNan}
 use Rattle.ieee.specs.Convert.{clamped, narrowed, clampedLog}
 use Rattle.ieee.specs.TotalOrder.{totalBefore}
 use Rattle.phrase.specs.Phrase.{Phrase, Stage, Candidate, Speech, spoken}
@@ -21,7 +21,7 @@ use Rattle.paths.specs.Search.{chosen}
 use Rattle.evidence.specs.Outcome.{accepted}
 use Rattle.evidence.specs.Frames.{highestBelow, lowestFrom, ascendingFrom}
 use Rattle.evidence.specs.Spans.{spanOf, spansOf}
-use Rattle.evidence.specs.Rate.{insert, sorted, gapsAfter, below, firstAt, median, rate}
+use Rattle.evidence.specs.Rate.{sorted, gapsAfter, below, firstAt, median, rate}
 use Rattle.clip.specs.declared.clip.Span.{Span}
 use Rattle.clip.specs.Clip.{anchored, unanchored, reported}
 use Rattle.clip.proofs.Examples as clip
@@ -31,7 +31,7 @@ use Rattle.record.specs.Edition.{edition1}
 use Rattle.record.specs.Layout.{trailerOf, layoutFrom, layoutOf}
 use Rattle.record.specs.Conditions.{shortDesk}
 use Rattle.record.specs.Refusals.{refusalWith}
-use Rattle.record.specs.Meaning.{phraseAt, phraseOf}
+use Rattle.record.specs.Meaning.{phraseOf}
 use Rattle.record.specs.Sample.{sample}
 use Rattle.record.specs.declared.refusal.Refusal.{Refusal}
 use Rattle.record.specs.declared.refusal.Refusal.the-variants.{Desk}
