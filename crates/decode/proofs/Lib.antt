@@ -5,3 +5,5 @@ pub mod Demands
 pub mod Decodes
 pub mod OneOutcome
 mod Group
+mod Examples
+mod ShutOut

@@ -1,9 +1,8 @@
 -- The contract leaves nothing open: two outcomes of one call that both meet it are the same, in the answer and in every lent buffer.
-use Prim.Native.Nat.{ℕ, zero, suc, _-_}
+use Prim.Native.Nat.{ℕ, _-_}
 use mathlib.Core.List.{List, [], _∷_}
 use mathlib.Core.Option.{Option, none, some}
 use mathlib.Core.Path.{_≡_, refl, sym, ap, _∙_}
-use borrow.Author.Tests.{eqb-false}
 use lib.ListN.{length, getD}
 use lib.Ieee.{Float}
 use Rattle.evidence.specs.Outcome.{Outcome, accepted, refused}
