@@ -1,8 +1,8 @@
 -- An accepted record's phrase keeps to document 01's bounds, whatever scores and costs it lends.
 use Prim.Native.Nat.{ℕ, zero, suc, _+_, _≤_, _<_}
 use mathlib.Core.List.{List, [], _∷_}
-use mathlib.Core.Option.{Option, none, some, Option·some-ne-none}
-use mathlib.Core.Path.{_≡_, refl, sym, _∙_}
+use mathlib.Core.Option.{none}
+use mathlib.Core.Path.{_≡_, refl, sym}
 use native.Mathlib.Omega.{arith}
 use lib.Dec.{T}
 use lib.ListN.{length, getD}
@@ -15,21 +15,11 @@ use Rattle.paths.specs.Passes.{nonEmpty}
 use Rattle.paths.specs.Bounded.{Bounded, PhraseBounded, documentRanges}
 use Rattle.record.specs.Edition.{edition1}
 use Rattle.record.specs.Layout.{layoutOf}
-use Rattle.record.specs.Refusals.{refusalOf, refusalWith}
+use Rattle.record.specs.Refusals.{refusalOf}
 use Rattle.record.specs.Meaning.{phraseAt, phraseOf}
 use Rattle.record.specs.Accepted.{CandidateFit, Fit}
-use Rattle.record.specs.declared.refusal.Refusal.{Refusal}
 use Rattle.record.proofs.Below.{length-listed}
 use Rattle.record.proofs.Accepted.{fit}
-use Rattle.record.proofs.Answers.{refused-first}
-
--- a record that is accepted with lent buffers is one that no rule of its own refuses
-pub own-rules : (bytes : List ℕ) (best back out : ℕ) → refusalWith bytes best back out ≡ none → refusalOf bytes ≡ none
-own-rules bytes best back out accepted = go (refusalOf bytes) refl
-  where
-    go : (o : Option Refusal) → refusalOf bytes ≡ o → refusalOf bytes ≡ none
-    go none e = e
-    go (some q) e = absurd (Option·some-ne-none q (sym (refused-first bytes best back out q e) ∙ accepted))
 
 some-anchor : (frames : List ℕ) → T (nonEmpty frames) → 0 < length frames
 some-anchor (frame ∷ frames) t = omega arith

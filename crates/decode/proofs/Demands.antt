@@ -42,7 +42,7 @@ module _ (bytes : List ℕ) (accepted : refusalOf bytes ≡ none) where
   abbrev Fits : Candidate → Type 0
   Fits = CandidateFit (edition1 .units) (layoutOf bytes .scores .count)
 
-  answered : {c : Candidate} → Fits c → Demanded (phraseOf bytes) (c .columns) (chosen (phraseOf bytes) (c .columns))
+  pub answered : {c : Candidate} → Fits c → Demanded (phraseOf bytes) (c .columns) (chosen (phraseOf bytes) (c .columns))
   answered {c} fits = chosen-demanded document-room (bounded bytes accepted c fits)
 
   met : {c : Candidate} → Fits c → Meets (phraseOf bytes) c (entryOf (phraseOf bytes) c)

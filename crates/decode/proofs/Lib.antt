@@ -1,4 +1,5 @@
 -- Laws of this layer's definitions.
+pub mod Calls
 pub mod Bounded
 mod Units
 pub mod Demands
