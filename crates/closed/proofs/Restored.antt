@@ -6,9 +6,8 @@ use native.Mathlib.Omega.{arith}
 use lib.Ieee.{Float, binary64, ofBits}
 use lib.ListN.{length, getD, drop, replicate, length-append, length-drop, length-replicate, getD-replicate, List·getD-append}
 use lib.Seq.{ext-getD, getD-drop, getD-append-add}
-use Rattle.paths.specs.Cell.{Cell, empty}
-use Rattle.paths.specs.Marks.{Marked}
-use Rattle.rows.specs.Rows.{Holds, unreached, reached}
+use Rattle.paths.specs.Cell.{empty}
+use Rattle.rows.specs.Rows.{Holds, unreached}
 use Rattle.rows.proofs.Cells.{by-order}
 
 pub restored :

@@ -1,13 +1,13 @@
 -- What an accepted record gives every pass over the tables of its stage. Assumes nothing.
 use mathlib.Core.Bool.{true}
 use mathlib.Core.List.{List, [], _∷_}
-use mathlib.Core.Path.{_≡_, refl, sym, subst, _∙_}
-use Prim.Native.Nat.{ℕ, suc, _+_, _*_, _≤_, _<_}
+use mathlib.Core.Path.{_≡_, refl, sym}
+use Prim.Native.Nat.{ℕ, suc, _+_, _≤_, _<_}
 use native.Mathlib.Nat.{mul-le-mul-right}
 use native.Mathlib.Omega.{arith}
 use lib.Ieee.{Float}
-use lib.ListN.{length, getD}
-use Rattle.phrase.specs.Phrase.{Phrase, Stage}
+use lib.ListN.{length}
+use Rattle.phrase.specs.Phrase.{Stage}
 use Rattle.phrase.specs.declared.costs.Costs.{Costs}
 use Rattle.paths.specs.declared.passes.Pass.{Pass}
 use Rattle.paths.specs.declared.passes.Pass.the-variants.{NucleiStrict, CountStrict, CountRelaxed, NucleiRelaxed}
@@ -17,7 +17,7 @@ use Rattle.paths.specs.StageProblem.{boundary}
 use Rattle.paths.specs.Passes.{passProblem, hasNucleus, nonEmpty}
 use Rattle.paths.proofs.Anchors.{keptIn-le}
 use Rattle.record.specs.declared.layout.Layout.{Layout}
-use Rattle.record.specs.Accepted.{Frames, StageFit}
+use Rattle.record.specs.Accepted.{StageFit}
 use Rattle.record.specs.Edition.{edition1}
 use Rattle.record.specs.Layout.{layoutOf}
 use Rattle.record.specs.Meaning.{phraseOf, phraseAt}

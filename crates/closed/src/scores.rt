@@ -1,6 +1,6 @@
 // The scores of one unit, by boundary.
 
-ghost use Prim.Native.Nat.{_≤_, _<_, _+_};
+ghost use Prim.Native.Nat.{_≤_, _<_};
 ghost use lib.ListN.{length};
 ghost use Rattle.record.specs.Accepted.{Laid};
 ghost use Rattle.record.specs.Meaning.{phraseOf};

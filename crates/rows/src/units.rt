@@ -5,7 +5,7 @@ ghost use mathlib.Core.Path.{_≡_};
 ghost use Prim.Native.Nat.{_+_, _-_, _≤_, _<_, _^_};
 ghost use lib.Dec.{leb};
 ghost use lib.ListN.{length};
-ghost use Rattle.paths.specs.Units.{shortestUnit, longestUnit, mayHold};
+ghost use Rattle.paths.specs.Units.{shortestUnit, mayHold};
 ghost use Rattle.rows.specs.Rows.{Row, SomeRow, next, unfilled};
 ghost use Rattle.rows.specs.Units.{unitTables, Ordered, gain, UnitsFilled};
 use crate::way::Way;

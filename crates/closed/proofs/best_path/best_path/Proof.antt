@@ -1,12 +1,10 @@
 -- `closed::best_path::best_path` meets its contract. Assumes nothing.
 use mathlib.Core.List.{List, [], _++_}
-use mathlib.Core.Path.{_≡_, sym, ap, subst, subst⁻¹, _∙_}
-use Prim.Native.Nat.{ℕ, suc, _+_, _*_, _≤_, _<_}
+use mathlib.Core.Path.{_≡_, ap, subst, subst⁻¹, _∙_}
+use Prim.Native.Nat.{ℕ, suc, _+_, _*_}
 use native.Mathlib.Omega.{arith}
-use lib.Ieee.{Float, binary64, nan, ofBits}
+use lib.Ieee.{binary64, nan, ofBits}
 use lib.ListN.{length, drop, replicate}
-use Rattle.paths.specs.Problem.{Problem}
-use Rattle.record.specs.Meaning.{phraseOf}
 use Rattle.record.proofs.Accepted.{fit}
 use Rattle.closed.specs.Reported.{AllRows, Reports}
 use Rattle.closed.specs.Asked.{columnsOf, cellsFor}

@@ -1,17 +1,16 @@
 -- `closed::scores::row_scores` meets its contract. Assumes nothing.
 use mathlib.Core.List.{List}
-use mathlib.Core.Path.{_≡_, refl, sym, ap, subst, _∙_}
-use Prim.Native.Nat.{ℕ, _+_, _-_, _*_, _≤_, _<_}
+use mathlib.Core.Path.{_≡_, refl, _∙_}
+use Prim.Native.Nat.{ℕ, _+_, _-_, _≤_, _<_}
 use native.Mathlib.Omega.{arith}
 use lib.Ieee.{Float, binary64, nan, ofBits}
-use lib.ListN.{length, getD, set, length-set, getD-replicate, replicate}
+use lib.ListN.{length, getD, set, length-set, getD-replicate}
 use lib.Seq.{getD-set-same, getD-set-other}
 use borrow.Author.Count.{below-more}
 use borrow.Author.Needs.{needs}
 use Rattle.phrase.specs.Phrase.{Phrase}
-use Rattle.record.specs.Conditions.{f32At}
 use Rattle.record.specs.Meaning.{phraseOf}
-use Rattle.closed.specs.Searched.{ScoresOf, Scored}
+use Rattle.closed.specs.Searched.{ScoresOf}
 use Rattle.closed.proofs.scores.row_scores.Statement.{statement}
 use Rattle.closed.proofs.scores.row_scores.Tie as tie
 
