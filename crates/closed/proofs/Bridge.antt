@@ -17,6 +17,7 @@ use Rattle.paths.specs.LookAhead.{ahead, frameOr, rowOr, firstAhead, secondAhea
 use Rattle.paths.specs.StageProblem.{unitValueOf, boundary, problemOf}
 use Rattle.paths.proofs.Frames.{increasing-le}
 use Rattle.paths.proofs.LookAhead.{Rising, kept-rising, holds-none, holds-more, admits-ahead, score-ahead}
+use Rattle.stages.specs.Room.{most}
 use Rattle.stages.specs.declared.tables.StageTables.{StageTables}
 use Rattle.stages.specs.Tables.{Tabled, beyond}
 use Rattle.rows.proofs.Cells.{by-order}
@@ -86,7 +87,7 @@ fits-both frames h = go (leb shortestUnit frames) (leb frames longestUnit) (leb�
     go false b low high h = absurd h
 
 module _ (phrase : Phrase) (stage : Stage) (t : StageTables) (tabled : Tabled phrase stage t) (anchorsUp : Increasing (stage .anchors))
-    (boundsUp : Increasing (stage .boundaries)) (few : length (stage .boundaries) ≤ 64)
+    (boundsUp : Increasing (stage .boundaries)) (few : length (stage .boundaries) ≤ most)
     (last : (i : ℕ) → i < length (stage .boundaries) → boundary stage i ≤ beyond) (short : length (phrase .mask) ≤ beyond) where
   rising : Rising 0 (kept phrase stage)
   rising = kept-rising (phrase .mask) (stage .firstRow) (stage .anchors) anchorsUp

@@ -24,6 +24,7 @@ use Rattle.record.specs.Meaning.{phraseOf, phraseAt}
 use Rattle.record.specs.Conditions.{frameAt}
 use Rattle.record.proofs.Accepted.{fit}
 use Rattle.record.proofs.Below.{length-listed}
+use Rattle.stages.specs.Room.{most}
 use Rattle.stages.specs.declared.tables.StageTables.{StageTables}
 use Rattle.stages.specs.Tables.{Tabled, beyond}
 use Rattle.closed.specs.Searched.{Agrees, Readable, scoreRows}
@@ -35,10 +36,10 @@ use Rattle.closed.proofs.Bridge.{agrees, readable}
 record Fits (stage : Stage) : Type 0 where
   anchorsUp : Increasing (stage .anchors)
   boundsUp : Increasing (stage .boundaries)
-  few : length (stage .boundaries) ≤ 64
+  few : length (stage .boundaries) ≤ most
   last : (i : ℕ) → i < length (stage .boundaries) → boundary stage i ≤ beyond
 
-fits : {a b : ℕ} {stage : Stage} → b ≤ 64 → StageFit a b stage → Fits stage
+fits : {a b : ℕ} {stage : Stage} → b ≤ most → StageFit a b stage → Fits stage
 fits h s = record {
   anchorsUp = λ i k. s .anchors .rising i (suc i) (omega arith) k;
   boundsUp = λ i k. s .boundaries .rising i (suc i) (omega arith) k;

@@ -6,6 +6,7 @@ use native.Mathlib.Omega.{arith}
 use lib.Ieee.{binary64, nan, ofBits}
 use lib.ListN.{length, drop, replicate}
 use Rattle.record.proofs.Accepted.{fit}
+use Rattle.stages.specs.Room.{most}
 use Rattle.closed.specs.Reported.{AllRows, Reports}
 use Rattle.closed.specs.Asked.{columnsOf, cellsFor}
 use Rattle.closed.proofs.Restored.{restored, zero-value, zero-mark}
@@ -13,7 +14,7 @@ use borrow.Author.Needs.{needs}
 use Rattle.closed.proofs.best_path.best_path.Statement.{statement}
 use Rattle.closed.proofs.best_path.best_path.Tie as tie
 
-stop-long : (c : tie.Start) → length (c .args .t6 .stop) ≡ 64
+stop-long : (c : tie.Start) → length (c .args .t6 .stop) ≡ most
 stop-long c = search (needs, c .good .1 .1 .1 .1 .1 .0)
 
 abbrev columns : tie.Start → List ℕ

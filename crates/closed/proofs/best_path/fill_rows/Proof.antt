@@ -14,6 +14,7 @@ use Rattle.phrase.specs.declared.costs.Costs.{Costs}
 use Rattle.record.specs.Meaning.{phraseOf}
 use Rattle.record.proofs.Accepted.{fit}
 use Rattle.record.proofs.Reading.{within-real}
+use Rattle.stages.specs.Room.{most}
 use Rattle.stages.specs.declared.tables.StageTables.{StageTables}
 use Rattle.paths.specs.CellRule.{rows}
 use Rattle.paths.specs.Marks.{marks}
@@ -35,12 +36,12 @@ abbrev μ-loop : tie.MeasureT-loop
 
 -- the tables are arrays
 record Arrays (t : StageTables) : Type 0 where
-  bounds : length (t .bounds) ≡ 64
-  start : length (t .start) ≡ 64
-  gap : length (t .gap) ≡ 64
-  first : length (t .first) ≡ 64
-  second : length (t .second) ≡ 64
-  row : length (t .row) ≡ 64
+  bounds : length (t .bounds) ≡ most
+  start : length (t .start) ≡ most
+  gap : length (t .gap) ≡ most
+  first : length (t .first) ≡ most
+  second : length (t .second) ≡ most
+  row : length (t .row) ≡ most
   duration : length (t .duration) ≡ 75
 
 arrays : (c : tie.Start Inv-loop μ-loop) → Arrays (c .args .t6)
