@@ -2,3 +2,8 @@
 pub mod Listed
 pub mod Edges
 pub mod Speech
+pub mod Kept
+pub mod Places
+pub mod Held
+pub mod Stage
+pub mod OwnTables

@@ -70,10 +70,13 @@ module _ {A : Type 0} where
   unfolding listed
   table-none f size spare = padded-none size spare
 
-  pub table-more : (f : ℕ → A) (n size : ℕ) (spare x : A) → n < size → x ≡ f n → set (tableOf f n size spare) n x ≡ tableOf f (n + 1) size spare
+  -- a table takes in its next entry
+  pub table-more : (f : ℕ → A) (n size : ℕ) (spare x : A) (l : List A) → l ≡ tableOf f n size spare → n < size → x ≡ f n
+      → set l n x ≡ tableOf f (n + 1) size spare
   unfolding listed
-  table-more f n size spare x h e =
-      ap₂ (set (tableOf f n size spare)) (sym (length-listed f n)) e
+  table-more f n size spare x l filled h e =
+      ap (λ (xs : List A). set xs n x) filled
+      ∙ ap₂ (set (tableOf f n size spare)) (sym (length-listed f n)) e
       ∙ padded-more (listed f n) size spare (f n) (omega (arith, length-listed f n))
       ∙ ap (λ (m : ℕ). tableOf f m size spare) (sym (add-one n))
 
@@ -83,3 +86,11 @@ module _ {A : Type 0} where
 
   pub length-table : (f : ℕ → A) (n size : ℕ) (spare : A) → n ≤ size → length (tableOf f n size spare) ≡ size
   length-table f n size spare h = length-padded (listed f n) size spare (omega (arith, length-listed f n))
+
+  pub table-same : (f g : ℕ → A) (n size : ℕ) (spare : A) → ((i : ℕ) → i < n → f i ≡ g i) → tableOf f n size spare ≡ tableOf g n size spare
+  unfolding listed
+  table-same f g n size spare h = ap (λ (l : List A). padded l size spare) (same n h)
+    where
+      same : (m : ℕ) → ((i : ℕ) → i < m → f i ≡ g i) → listed f m ≡ listed g m
+      same zero k = refl
+      same (suc m) k = ap₂ (λ (l : List A) (x : A). l ++ (x ∷ [])) (same m (λ i less. k i (omega arith))) (k m (omega arith))

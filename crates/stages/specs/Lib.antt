@@ -2,3 +2,9 @@
 pub mod Listed
 pub mod Edges
 pub mod Tables
+pub mod Kept
+pub mod Places
+pub mod Filler
+pub mod Ahead
+pub mod Parts
+pub mod Made

@@ -42,6 +42,7 @@ pub fn speech_before(mask: &[u8], bounds: &[u32]) -> [u32; 65]
     requires { ⌜ (length (now mask) < 2 ^ 32) × (length (now bounds) ≤ 64) × Increasing (now bounds) ⌝ }
     ensures { λ r. ⌜ r ≡ tableOf (speechBefore (now (mask .entry)) (now (bounds .entry))) (length (now (bounds .entry)) + 1) 65 0 ⌝ }
 {
+    let end = mask.len() as u32;
     let mut counts = [0u32; 65];
     let mut count = 0;
     let mut from = 0;
@@ -53,6 +54,6 @@ pub fn speech_before(mask: &[u8], bounds: &[u32]) -> [u32; 65]
         from = to;
         j += 1;
     }
-    counts[j] = count + speech_in(mask, from, mask.len() as u32);
+    counts[j] = count + speech_in(mask, from, end);
     counts
 }

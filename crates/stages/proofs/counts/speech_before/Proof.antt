@@ -15,14 +15,14 @@ use Rattle.stages.proofs.counts.speech_before.Statement.{statement}
 use Rattle.stages.proofs.counts.speech_before.Tie as tie
 
 abbrev Inv-loop : tie.InvT-loop
-Inv-loop mask bounds counts₀ count₀ from₀ j₀ counts count from j =
+Inv-loop mask bounds end counts₀ count₀ from₀ j₀ counts count from j =
     (j ≤ length bounds)
     × (counts ≡ tableOf (speechBefore mask bounds) j 65 0)
     × (count ≡ speechIn mask 0 from)
     × (j < length bounds → from ≤ getD bounds j 0)
 
 abbrev μ-loop : tie.MeasureT-loop
-μ-loop mask bounds counts₀ count₀ from₀ j₀ counts count from j = length bounds - j
+μ-loop mask bounds end counts₀ count₀ from₀ j₀ counts count from j = length bounds - j
 
 counted : (c : tie.After-speech-in Inv-loop μ-loop)
     → c .before .before .before .loop .count + c .speech-in .result
@@ -39,6 +39,9 @@ counted-all : (c : tie.After-speech-in2 Inv-loop μ-loop)
 counted-all c =
     speech-on (c .before .before .before .before .before .args .mask .now) (c .before .before .loop .from) _ (c .before .before .loop .inv .2)
     (c .speech-in2 .ensures) (omega arith)
+
+cast-end : tie.Need-cast-end Inv-loop μ-loop
+cast-end c = omega arith
 
 loop-holds : tie.Need-loop-holds Inv-loop μ-loop
 loop-holds c = (omega arith, table-none (speechBefore (c .before .before .args .mask .now) (c .before .before .args .bounds .now)) 65 0, speech-none (c .before .before .args .mask .now), λ _. omega arith)
@@ -73,15 +76,11 @@ loop-again c =
     let bounds = c .before .before .before .before .before .before .args .bounds .now in
     let l = c .before .before .before .loop in (
       omega arith,
-      ap (λ (counts : List ℕ). set counts (l .j) (l .count + c .speech-in .result)) (l .inv .1)
-          ∙ table-more (speechBefore mask bounds) (l .j) 65 0 _ (omega arith)
+      table-more (speechBefore mask bounds) (l .j) 65 0 _ (l .counts) (l .inv .1) (omega arith)
           (counted c ∙ ap (speechIn mask 0) (sym (edge-in bounds (length mask) (l .j) (omega arith)))),
       counted c,
       ascends bounds (c .before .before .before .before .before .before .pre .2) (l .j),
     )
-
-cast-speech-in : tie.Need-cast-speech-in Inv-loop μ-loop
-cast-speech-in c = omega arith
 
 speech-in-requires-2 : tie.Need-speech-in-requires-2 Inv-loop μ-loop
 speech-in-requires-2 c κs = search needs
@@ -101,8 +100,7 @@ returns c =
     let bounds = c .before .before .before .before .before .args .bounds .now in
     let l = c .before .before .loop in
     let e : l .j ≡ length bounds = omega arith in
-    ap (λ (counts : List ℕ). set counts (l .j) (l .count + c .speech-in2 .result)) (l .inv .1)
-    ∙ table-more (speechBefore mask bounds) (l .j) 65 0 _ (omega arith)
+    table-more (speechBefore mask bounds) (l .j) 65 0 _ (l .counts) (l .inv .1) (omega arith)
     (counted-all c ∙ ap (speechIn mask 0) (sym (ap (λ (j : ℕ). edge bounds (length mask) j) e ∙ edge-end bounds (length mask))))
     ∙ ap (λ (j : ℕ). tableOf (speechBefore mask bounds) (j + 1) 65 0) e
 
@@ -112,6 +110,7 @@ speech-before-spec =
     (tie.spec
     Inv-loop
     μ-loop
+    cast-end
     loop-holds
     mul-to
     shared-slice-read-to
@@ -122,7 +121,6 @@ speech-before-spec =
     add-j
     loop-less
     loop-again
-    cast-speech-in
     speech-in-requires-2
     add-counts
     mul-counts-2
