@@ -7,7 +7,7 @@ use lib.Dec.{T}
 use lib.ListN.{length, getD, drop}
 use lib.Ieee.{Float, isNan}
 use Rattle.phrase.specs.Phrase.{Phrase, Stage, Candidate, Speech, silent, spoken}
-use Rattle.record.specs.Conditions.{f32At}
+use Rattle.record.specs.Conditions.{f32At, firstTable, secondTable}
 use Rattle.record.specs.declared.layout.Section.{Section}
 use Rattle.record.specs.declared.layout.Layout.{Layout}
 use Rattle.record.specs.declared.read.Which.{Which}
@@ -20,6 +20,24 @@ abbrev pub stageOf : Which → Phrase → Stage
 stageOf Nuclei phrase = phrase .nuclei
 stageOf Count phrase = phrase .added
 
+-- where its two lists stand, and its duration table
+abbrev pub anchorSection : Which → Layout → Section
+anchorSection Nuclei at = at .nuclei
+anchorSection Count at = at .anchors
+
+abbrev pub boundarySection : Which → Layout → Section
+boundarySection Nuclei at = at .boundaries
+boundarySection Count at = at .added
+
+abbrev pub tableStart : Which → Layout → ℕ
+tableStart Nuclei at = firstTable (at .costs)
+tableStart Count at = secondTable (at .costs)
+
+-- the added stage's table is checked where there is such a stage
+abbrev pub HasTable : Which → Phrase → Type 0
+HasTable Nuclei phrase = Unit {0}
+HasTable Count phrase = 0 < length (phrase .added .anchors)
+
 abbrev pub edgesOf : Edges → Speech
 edgesOf Silent = silent
 edgesOf (Spoken start end) = spoken start end
@@ -31,6 +49,11 @@ candidateOf phrase i = getD (phrase .candidates) i (record { id = 0; columns = [
 -- a list written over the front of another
 abbrev pub over : List ℕ → List ℕ → List ℕ
 over xs old = xs ++ drop (length xs) old
+
+-- that was done to a buffer, and its count returned
+pub record Copied (xs old new : List ℕ) (count : ℕ) : Type 0 where
+  pub counted : count ≡ length xs
+  pub buffer : new ≡ over xs old
 
 -- a float that was read: the value, which is no NaN
 pub record IsFloat (value r : Float) : Type 0 where

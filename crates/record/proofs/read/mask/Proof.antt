@@ -6,7 +6,8 @@ use lib.ListN.{take, drop}
 use denote.Ref.{now}
 use Rattle.phrase.specs.Phrase.{Phrase}
 use Rattle.record.specs.Meaning.{phraseAt}
-use Rattle.record.proofs.Reading.{sections, meaning, part-listed}
+use Rattle.record.proofs.Reading.{sections, part-listed}
+use Rattle.record.proofs.Accepted.{meaning}
 use borrow.Author.Needs.{needs}
 use Rattle.record.proofs.read.mask.Statement.{statement}
 use Rattle.record.proofs.read.mask.Tie as tie
