@@ -1,1 +1,4 @@
 // Result entries: their words, and their ranking in the output.
+
+pub mod ranking;
+pub mod words;

@@ -6,7 +6,11 @@ mod Words
 mod Sorting
 mod Gaps
 pub mod Sorted
+pub mod Places
 pub mod Neighbours
 pub mod Ascending
+pub mod Distinct
 pub mod Cuts
+pub mod SpanFacts
 pub mod Checks
+pub mod Examples

@@ -36,14 +36,14 @@ pub fn gained(score: f64, unvoiced: f64, first: u32, to: u32, duration: &[f64], 
 }
 
 // `best` and `back` start at the row that the units come from; the next row follows it.
-pub fn fill_units(
+pub fn fill_units<'a>(
     best: &mut [f64],
     back: &mut [u32],
-    bounds: &[u32],
-    first: &[u32],
-    second: &[u32],
+    bounds: &'a [u32],
+    first: &'a [u32],
+    second: &'a [u32],
     score: &[f64],
-    duration: &[f64],
+    duration: &'a [f64],
     unvoiced: f64,
     strictness: Strictness,
     n: usize,

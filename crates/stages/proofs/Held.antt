@@ -9,7 +9,7 @@ use lib.Dec.{T, ltb, leb, leb→le, nleb→lt, ltb→lt, nltb→le}
 use lib.ListN.{length, getD, drop, length-map, drop-of-length-le}
 use borrow.Author.Tests.{lt-ltb, le-ltb, le-leb, lt-leb, ltb-true, leb-true, leb-false}
 use Rattle.paths.specs.Frames.{Increasing, within}
-use Rattle.paths.specs.Anchors.{Anchor, select, numbered, keptIn, held}
+use Rattle.paths.specs.Anchors.{Anchor, select, numbered, keptIn, heldIn}
 use Rattle.paths.specs.LookAhead.{ahead}
 use Rattle.stages.specs.Listed.{padded}
 use Rattle.stages.specs.Kept.{framesOf}
@@ -32,27 +32,27 @@ unfolding select
 left-out test anchor anchors e = ap (λ (b : Bool). length (cond b (anchor ∷ select test anchors) (select test anchors))) e
 
 module _ (anchor : Anchor) (anchors : List Anchor) (from to : ℕ) where
-  holds-it : from ≤ anchor .frame → anchor .frame < to → length (held (anchor ∷ anchors) from to) ≡ suc (length (held anchors from to))
-  unfolding held
+  holds-it : from ≤ anchor .frame → anchor .frame < to → length (heldIn (anchor ∷ anchors) from to) ≡ suc (length (heldIn anchors from to))
+  unfolding heldIn
   holds-it h k =
       taken-in (λ a. leb from (a .frame) && ltb (a .frame) to) anchor anchors
       (ap₂ _&&_ (le-leb from (anchor .frame) h) (lt-ltb (anchor .frame) to k))
 
-  before-it : anchor .frame < from → length (held (anchor ∷ anchors) from to) ≡ length (held anchors from to)
-  unfolding held
+  before-it : anchor .frame < from → length (heldIn (anchor ∷ anchors) from to) ≡ length (heldIn anchors from to)
+  unfolding heldIn
   before-it h =
       left-out (λ a. leb from (a .frame) && ltb (a .frame) to) anchor anchors
       (ap (λ (b : Bool). b && ltb (anchor .frame) to) (lt-leb from (anchor .frame) h))
 
-  after-it : from ≤ anchor .frame → to ≤ anchor .frame → length (held (anchor ∷ anchors) from to) ≡ length (held anchors from to)
-  unfolding held
+  after-it : from ≤ anchor .frame → to ≤ anchor .frame → length (heldIn (anchor ∷ anchors) from to) ≡ length (heldIn anchors from to)
+  unfolding heldIn
   after-it h k =
       left-out (λ a. leb from (a .frame) && ltb (a .frame) to) anchor anchors
       (ap₂ _&&_ (le-leb from (anchor .frame) h) (le-ltb (anchor .frame) to k))
 
 -- the anchors before a boundary, counted by their frames
-pub held-count : (anchors : List Anchor) (bound : ℕ) → length (held anchors 0 bound) ≡ countBelow (framesOf anchors) bound
-unfolding held select countBelow
+pub held-count : (anchors : List Anchor) (bound : ℕ) → length (heldIn anchors 0 bound) ≡ countBelow (framesOf anchors) bound
+unfolding heldIn select countBelow
 held-count [] bound = refl
 held-count (anchor ∷ anchors) bound =
     let known = held-count anchors bound in
@@ -62,8 +62,8 @@ held-count (anchor ∷ anchors) bound =
 
 -- those before `to` are those before `from` and those between, of anchors below the end that both are clamped to
 pub held-on : (anchors : List Anchor) (end from to : ℕ) → Below end anchors → min from end ≤ min to end
-    → length (held anchors 0 to) ≡ length (held anchors 0 from) + length (held anchors from to)
-unfolding held select
+    → length (heldIn anchors 0 to) ≡ length (heldIn anchors 0 from) + length (heldIn anchors from to)
+unfolding heldIn select
 held-on [] end from to below h = refl
 held-on (anchor ∷ anchors) end from to below h =
     let known = held-on anchors end from to (below .1) h in

@@ -10,7 +10,7 @@ use Rattle.phrase.specs.declared.costs.Costs.{Costs}
 use Rattle.phrase.specs.Phrase.{Phrase, Stage}
 use Rattle.phrase.specs.Filler.{fillerCost}
 use Rattle.paths.specs.Frames.{speechIn}
-use Rattle.paths.specs.Anchors.{Anchor, keptIn, kept, held}
+use Rattle.paths.specs.Anchors.{Anchor, keptIn, kept, heldIn}
 use Rattle.paths.specs.Units.{shortestUnit, longestUnit}
 use Rattle.paths.specs.LookAhead.{firstAhead, secondAhead, rowAhead}
 use Rattle.paths.specs.StageProblem.{cost, boundary}
@@ -28,7 +28,7 @@ cost-is : (phrase : Phrase) → phrase .nuclei .firstRow ≡ 0 → (from to : �
     → costOf (phrase .costs) (phrase .mask) (keptIn (phrase .mask) 0 (phrase .nuclei .anchors)) from to ≡ cost phrase from to
 unfolding costOf cost
 cost-is phrase e from to =
-    ap (λ (row : ℕ). fillerCost (phrase .costs) (speechIn (phrase .mask) from to) (length (held (keptIn (phrase .mask) row (phrase .nuclei .anchors)) from to))) (sym e)
+    ap (λ (row : ℕ). fillerCost (phrase .costs) (speechIn (phrase .mask) from to) (length (heldIn (keptIn (phrase .mask) row (phrase .nuclei .anchors)) from to))) (sym e)
 
 module _ (phrase : Phrase) (stage : Stage) (duration : List Float) (numbered : phrase .nuclei .firstRow ≡ 0)
     (timed : (d : ℕ) → shortestUnit ≤ d → d ≤ longestUnit → getD duration (d - shortestUnit) nan ≡ stage .duration d) where

@@ -9,7 +9,7 @@ use lib.Ieee.{Float, neg}
 use Rattle.phrase.specs.declared.costs.Costs.{Costs}
 use Rattle.phrase.specs.Filler.{fillerCost}
 use Rattle.paths.specs.Frames.{Increasing, speechIn}
-use Rattle.paths.specs.Anchors.{Anchor, select, numbered, keptIn, held}
+use Rattle.paths.specs.Anchors.{Anchor, select, numbered, keptIn, heldIn}
 use Rattle.paths.specs.LookAhead.{ahead, frameOr, rowOr, firstAhead, secondAhead, rowAhead}
 use Rattle.stages.specs.Tables.{beyond}
 use Rattle.stages.specs.Listed.{padded, tableOf}
@@ -68,15 +68,15 @@ module _ (mask : List ℕ) (anchors : List Anchor) (orderly : Orderly mask ancho
       ∙ place-is mask anchors orderly frames framed (getD bounds j 0) (small j)
 
   -- the count before an edge is that of the anchors held from the start up to it
-  held-at : (j : ℕ) → j ≤ length bounds → getD places j 0 ≡ length (held anchors 0 (edge bounds (length mask) j))
+  held-at : (j : ℕ) → j ≤ length bounds → getD places j 0 ≡ length (heldIn anchors 0 (edge bounds (length mask) j))
   held-at j h = either j (length bounds) inside outside
     where
-      inside : j < length bounds → getD places j 0 ≡ length (held anchors 0 (edge bounds (length mask) j))
+      inside : j < length bounds → getD places j 0 ≡ length (heldIn anchors 0 (edge bounds (length mask) j))
       inside k =
           place-at j k ∙ sym (held-count anchors (getD bounds j 0))
-          ∙ ap (λ (b : ℕ). length (held anchors 0 b)) (sym (edge-in bounds (length mask) j k))
+          ∙ ap (λ (b : ℕ). length (heldIn anchors 0 b)) (sym (edge-in bounds (length mask) j k))
 
-      outside : length bounds ≤ j → getD places j 0 ≡ length (held anchors 0 (edge bounds (length mask) j))
+      outside : length bounds ≤ j → getD places j 0 ≡ length (heldIn anchors 0 (edge bounds (length mask) j))
       outside k =
           let e : j ≡ length bounds = omega arith in
           table-place j h ∙ ap (λ (n : ℕ). countBelow frames (edge bounds beyond n)) e ∙ ap (countBelow frames) (edge-end bounds beyond)
@@ -84,16 +84,16 @@ module _ (mask : List ℕ) (anchors : List Anchor) (orderly : Orderly mask ancho
           ∙ all-below anchors (length mask) beyond (orderly .below) (omega (arith, fit .framed))
           ∙ sym (all-below anchors (length mask) (length mask) (orderly .below) (omega arith))
           ∙ sym (held-count anchors (length mask))
-          ∙ ap (λ (b : ℕ). length (held anchors 0 b)) (sym (ap (λ (n : ℕ). edge bounds (length mask) n) e ∙ edge-end bounds (length mask)))
+          ∙ ap (λ (b : ℕ). length (heldIn anchors 0 b)) (sym (ap (λ (n : ℕ). edge bounds (length mask) n) e ∙ edge-end bounds (length mask)))
 
   -- from edge to edge
   held-between : (i j : ℕ) → i ≤ j → j ≤ length bounds
-      → getD places j 0 ≡ getD places i 0 + length (held anchors (edge bounds (length mask) i) (edge bounds (length mask) j))
+      → getD places j 0 ≡ getD places i 0 + length (heldIn anchors (edge bounds (length mask) i) (edge bounds (length mask) j))
   held-between i j h k =
       held-at j k
       ∙ held-on anchors (length mask) (edge bounds (length mask) i) (edge bounds (length mask) j) (orderly .below)
       (edges-climb bounds (length mask) (fit .listed .ascending) i j h k)
-      ∙ ap (λ (n : ℕ). n + length (held anchors (edge bounds (length mask) i) (edge bounds (length mask) j))) (sym (held-at i (omega arith)))
+      ∙ ap (λ (n : ℕ). n + length (heldIn anchors (edge bounds (length mask) i) (edge bounds (length mask) j))) (sym (held-at i (omega arith)))
 
   places-long : length places ≡ 65
   places-long = ap length placed ∙ length-table (placeBefore frames bounds) (length bounds + 1) 65 0 (omega (arith, fit .listed .short))

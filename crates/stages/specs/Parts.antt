@@ -7,7 +7,7 @@ use lib.Ieee.{Float, neg}
 use Rattle.phrase.specs.declared.costs.Costs.{Costs}
 use Rattle.phrase.specs.Filler.{fillerCost}
 use Rattle.paths.specs.Frames.{Increasing, speechIn}
-use Rattle.paths.specs.Anchors.{Anchor, held}
+use Rattle.paths.specs.Anchors.{Anchor, heldIn}
 use Rattle.paths.specs.LookAhead.{firstAhead, secondAhead, rowAhead}
 use Rattle.stages.specs.Tables.{beyond}
 use Rattle.stages.specs.Listed.{tableOf}
@@ -25,7 +25,7 @@ pub record Fit (mask bounds : List ℕ) : Type 0 where
 
 -- the filler cost of the frames from..to, by the record's kept nuclei
 unfoldable pub costOf : Costs → List ℕ → List Anchor → ℕ → ℕ → Float
-costOf costs mask nuclei from to = fillerCost costs (speechIn mask from to) (length (held nuclei from to))
+costOf costs mask nuclei from to = fillerCost costs (speechIn mask from to) (length (heldIn nuclei from to))
 
 -- The filler costs: of the start (negated), of the gap to the next edge, of the end.
 pub record Fills (costs : Costs) (mask : List ℕ) (nuclei : List Anchor) (bounds : List ℕ) (start gap stop : List Float) : Type 0 where

@@ -1,0 +1,3 @@
+-- What is proved of parts of the work areas, and of rows.
+pub mod Parts
+pub mod Filling

@@ -1,0 +1,2 @@
+-- The definitions of this layer: the tables of a problem, and the rows that are filled from them.
+pub mod Filled

@@ -1,0 +1,3 @@
+// The path that the cell rule keeps, after `best_path` and `search` of closed.rs.
+
+pub mod fill;

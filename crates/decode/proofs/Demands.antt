@@ -1,0 +1,69 @@
+-- Demand 3 is met for each candidate of every accepted record, whatever scores and costs it lends; its entries can be ranked and have room
+-- for their units, and their ranking is the one that document 01 asks for.
+use Prim.Native.Nat.{ℕ, zero, suc, _≤_, _<_}
+use mathlib.Core.List.{List, [], _∷_, map}
+use mathlib.Core.Option.{none}
+use mathlib.Core.Path.{_≡_, refl, sym, subst}
+use native.Mathlib.Omega.{arith}
+use lib.ListN.{length, getD}
+use Rattle.ieee.proofs.NarrowClamp.{clampedLog-comparable}
+use Rattle.phrase.specs.Phrase.{Phrase, Candidate}
+use Rattle.paths.specs.Demand.{Demanded}
+use Rattle.paths.specs.Search.{chosen}
+use Rattle.paths.proofs.Answers.{document-room, chosen-demanded}
+use Rattle.record.specs.Edition.{edition1}
+use Rattle.record.specs.Layout.{layoutOf}
+use Rattle.record.specs.Refusals.{refusalOf}
+use Rattle.record.specs.Meaning.{phraseOf}
+use Rattle.record.specs.Accepted.{CandidateFit}
+use Rattle.entries.specs.Entry.{Entry}
+use Rattle.entries.specs.Placing.{Fit, All, Rankable}
+use Rattle.entries.specs.Ranking.{ranked, Ranked}
+use Rattle.entries.proofs.Ranks.{ranked-is}
+use Rattle.decode.specs.EntryOf.{entryFor, entryBy, entryOf, entriesOf}
+use Rattle.decode.specs.Contract.{Meets, MeetsEach, all-met, each-met}
+use Rattle.decode.proofs.Bounded.{phrase-fit, bounded}
+use Rattle.decode.proofs.Units.{length-units}
+
+-- what holds of no candidates, and of one more that is as P says, holds of a list of such
+each-candidate :
+    {P : Candidate → Type 0} {Q : List Candidate → Type 0} →
+    Q [] → ((c : Candidate) (cs : List Candidate) → P c → Q cs → Q (c ∷ cs)) →
+    (cs : List Candidate) → ((i : ℕ) (other : Candidate) → i < length cs → P (getD cs i other)) → Q cs
+each-candidate no-more more [] fits = no-more
+each-candidate {P = P} {Q = Q} no-more more (c ∷ cs) fits =
+    more c cs (fits zero c (omega arith)) (each-candidate {P = P} {Q = Q} no-more more cs (λ i other below. fits (suc i) other (omega arith)))
+
+module _ (bytes : List ℕ) (accepted : refusalOf bytes ≡ none) where
+  abbrev Fits : Candidate → Type 0
+  Fits = CandidateFit (edition1 .units) (layoutOf bytes .scores .count)
+
+  answered : {c : Candidate} → Fits c → Demanded (phraseOf bytes) (c .columns) (chosen (phraseOf bytes) (c .columns))
+  answered {c} fits = chosen-demanded document-room (bounded bytes accepted c fits)
+
+  met : {c : Candidate} → Fits c → Meets (phraseOf bytes) c (entryOf (phraseOf bytes) c)
+  unfolding entryBy
+  met {c} fits = record { answer = chosen (phraseOf bytes) (c .columns); demanded = answered fits; reported = refl }
+
+  pub demands : MeetsEach (phraseOf bytes) (phraseOf bytes .candidates) (entriesOf (phraseOf bytes))
+  demands =
+      each-candidate {P = Fits} {Q = λ cs. MeetsEach (phraseOf bytes) cs (map (entryOf (phraseOf bytes)) cs)} all-met (λ c cs fits. each-met (met fits))
+      (phraseOf bytes .candidates) (phrase-fit bytes accepted .candidates)
+
+  -- an entry's llr is a binary32 value and no NaN, and its units are at most as many as an entry has room for
+  pub entry-fits : {c : Candidate} → Fits c → Fit (edition1 .units) (entryOf (phraseOf bytes) c)
+  unfolding entryBy entryFor
+  entry-fits {c} fits =
+      record { rankable = clampedLog-comparable _; few = subst (λ (n : ℕ). n ≤ edition1 .units) (sym (length-units (answered fits))) (fits .fewUnits) }
+
+  pub entries-fit : All (Fit (edition1 .units)) (entriesOf (phraseOf bytes))
+  entries-fit =
+      each-candidate {P = Fits} {Q = λ cs. All (Fit (edition1 .units)) (map (entryOf (phraseOf bytes)) cs)} All.none (λ c cs fits. All.more (entry-fits fits))
+      (phraseOf bytes .candidates) (phrase-fit bytes accepted .candidates)
+
+  pub ranking : Ranked (entriesOf (phraseOf bytes)) (ranked (entriesOf (phraseOf bytes)))
+  ranking = ranked-is (rankable entries-fit)
+    where
+      rankable : {es : List Entry} → All (Fit (edition1 .units)) es → All Rankable es
+      rankable All.none = All.none
+      rankable (All.more fits others) = All.more (fits .rankable) (rankable others)

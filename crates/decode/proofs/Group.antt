@@ -1,0 +1,172 @@
+-- What document 01 lists under "Proved as a group", in its order, as theorems about the definitions.
+use Prim.Native.Nat.{ℕ, _*_}
+use mathlib.Core.Bool.{Bool, true, false, cond}
+use mathlib.Core.List.{List, [], _∷_, _++_, map, zipWith}
+use mathlib.Core.Option.{Option, none, some}
+use mathlib.Core.Path.{_≡_, refl, sym, ap, _∙_}
+use lib.ListN.{length, replicate, drop}
+use lib.IntN.{pos, negsuc}
+use lib.Count.{trailingZeros}
+use lib.Ieee.{Float, fin, binary32, toBits, add, sub, mul, neg, ofInt, lt, le, eq, round, size, span, climb, units, odd, ofBits, ofFields, isNan}
+use Rattle.ieee.specs.Convert.{clamped, narrowed, clampedLog}
+use Rattle.ieee.specs.TotalOrder.{totalBefore}
+use Rattle.phrase.specs.Phrase.{Phrase, Stage, Candidate, spoken}
+use Rattle.paths.specs.declared.passes.Strictness.the-variants.{Strict}
+use Rattle.paths.specs.Anchors.{Anchor, keptIn}
+use Rattle.paths.specs.Units.{admitsUnit}
+use Rattle.paths.specs.StageProblem.{cost, unitValueOf}
+use Rattle.paths.specs.Passes.{hasNucleus}
+use Rattle.paths.specs.Marks.{unitsOf}
+use Rattle.paths.specs.Search.{chosen}
+use Rattle.evidence.specs.Outcome.{accepted}
+use Rattle.evidence.specs.Frames.{highestBelow, lowestFrom, ascendingFrom}
+use Rattle.evidence.specs.Spans.{spanOf, spansOf}
+use Rattle.evidence.specs.Rate.{insert, sorted, gapsAfter, below, firstAt, median, rate}
+use Rattle.clip.specs.declared.clip.Span.{Span}
+use Rattle.clip.specs.Clip.{anchored, unanchored, reported}
+use Rattle.clip.proofs.Examples as clip
+use Rattle.record.specs.Bytes.{u32At, u64At}
+use Rattle.record.specs.Below.{listed}
+use Rattle.record.specs.Edition.{edition1}
+use Rattle.record.specs.Layout.{trailerOf, layoutFrom, layoutOf}
+use Rattle.record.specs.Conditions.{shortDesk}
+use Rattle.record.specs.Refusals.{refusalWith}
+use Rattle.record.specs.Meaning.{phraseAt, phraseOf}
+use Rattle.record.specs.Sample.{sample}
+use Rattle.record.specs.declared.refusal.Refusal.{Refusal}
+use Rattle.record.specs.declared.refusal.Refusal.the-variants.{Desk}
+use Rattle.record.proofs.Answers.{desk-last}
+use Rattle.record.proofs.SamplePhrase as sample-record
+use Rattle.entries.specs.Entry.{Entry, noRow}
+use Rattle.entries.specs.Words.{allWords}
+use Rattle.entries.specs.Ranking.{ranked, rankOnto}
+use Rattle.decode.specs.Report.{reportedIn}
+use Rattle.decode.specs.EntryOf.{entryBy, entryOf, entriesOf}
+use Rattle.decode.specs.Contract.{outcome, outcomeOf, Decodes}
+use Rattle.decode.specs.declared.answer.Decoded.{Decoded}
+
+-- ---- "this phrase": the sample, from its 1,376 bytes to the words of the listing
+
+-- To name them on an `unfolding` line opens all that an entry is worked out by, and all that a record's words are.
+unfoldable workedEntry : Phrase → Candidate → Entry
+unfolding entryBy chosen hasNucleus keptIn cost admitsUnit unitValueOf add sub mul neg ofInt lt isNan clampedLog clamped narrowed reportedIn zipWith unitsOf highestBelow lowestFrom
+workedEntry = entryOf
+
+unfoldable workedWords : ℕ → List ℕ → List ℕ
+unfolding workedEntry allWords rankOnto totalBefore toBits phraseOf layoutOf layoutFrom trailerOf u32At u64At listed ofBits ofFields trailingZeros
+workedWords most bytes = allWords most (ranked (entriesOf (phraseOf bytes)))
+
+-- candidate 3 c0100000 nuclei-strict 1: 4 14 0; candidate 9 c1000000 none 2: 4 4 -, 4 4 -
+abbrev sampleWords : List ℕ
+sampleWords =
+    (3 ∷ 0xc0100000 ∷ 0 ∷ 1 ∷ 4 ∷ 14 ∷ 0 ∷ replicate 45 0) ++ (9 ∷ 0xc1000000 ∷ 4 ∷ 2 ∷ 4 ∷ 4 ∷ noRow ∷ 4 ∷ 4 ∷ noRow ∷ replicate 42 0)
+
+sample-words : allWords (edition1 .units) (ranked (entriesOf (phraseOf sample))) ≡ sampleWords
+unfolding workedWords sample
+sample-words = refl
+
+sample-candidates : length (phraseOf sample .candidates) ≡ 2
+unfolding workedWords sample
+sample-candidates = refl
+
+sample-laid : layoutOf sample .candidates .count ≡ 2
+unfolding workedWords sample
+sample-laid = refl
+
+module _ (best : List Float) (back out : List ℕ) (long : shortDesk edition1 2 (length best) (length back) (length out) ≡ false) where
+  -- with buffers that are long enough it is accepted
+  sample-accepted : refusalWith sample (length best) (length back) (length out) ≡ none
+  sample-accepted =
+      desk-last sample (length best) (length back) (length out) sample-record.accepted
+      ∙ ap (λ (b : Bool). cond b (some Desk) none) (ap (λ (m : ℕ). shortDesk edition1 m (length best) (length back) (length out)) sample-laid ∙ long)
+
+  -- and every decoder that meets the contract answers 2 and writes these words
+  pub sample-decoded :
+      {answer : Decoded} {best′ : List Float} {back′ out′ : List ℕ} → Decodes sample best back out answer best′ back′ out′ →
+      (outcome answer ≡ accepted 2) × (out′ ≡ sampleWords ++ drop 104 out)
+  sample-decoded decodes = (
+    decodes .answered ∙ ap (λ (o : Option Refusal). outcomeOf o (length (phraseOf sample .candidates))) sample-accepted ∙ ap accepted sample-candidates,
+    decodes .accepts sample-accepted .words
+        ∙ ap (λ (words : List ℕ). words ++ drop (length (phraseOf sample .candidates) * edition1 .«entry_words») out) sample-words
+        ∙ ap (λ (m : ℕ). sampleWords ++ drop (m * edition1 .«entry_words») out) sample-candidates,
+  )
+
+-- ---- "units of 5 (barred), 6, 80, 81 (barred) frames"
+
+abbrev anchor : Anchor
+anchor = record { frame = 0; row = 0 }
+
+pub unit-frames : map (admitsUnit Strict (anchor ∷ []) 0) (5 ∷ 6 ∷ 80 ∷ 81 ∷ []) ≡ false ∷ true ∷ true ∷ false ∷ []
+unfolding admitsUnit
+unit-frames = refl
+
+-- ---- "frames 10, 30, 60 give rate 0.25; equal frames give the default"
+
+unfoldable workedRate : List ℕ → Float → Float
+unfolding rate sorted gapsAfter below firstAt median add mul ofInt lt ofBits
+workedRate = rate
+
+pub rate-quarter : (default : Float) → rate (10 ∷ 30 ∷ 60 ∷ []) default ≡ fin false 1 (negsuc 1)
+unfolding workedRate
+rate-quarter default = refl
+
+pub rate-default : (default : Float) → rate (30 ∷ 30 ∷ 30 ∷ []) default ≡ default
+unfolding workedRate
+rate-default default = refl
+
+-- ---- "nuclei 10, 13 with edges 5, 20 and no boundaries give 5..12, 12..20"
+
+pub spans-cut : spansOf (10 ∷ 13 ∷ []) [] 5 20 ≡ record { start = 5; end = 12 } ∷ record { start = 12; end = 20 } ∷ []
+unfolding spanOf ascendingFrom highestBelow lowestFrom
+spans-cut = refl
+
+-- ---- "clip of 10..22 between anchored 4..14 and 18..30 gives 14..18; first unit 20..28 before anchored 15..30 gives 20..20"
+
+abbrev frames : ℕ → ℕ → Span
+frames start end = record { start = start; end = end }
+
+pub clip-between : reported (anchored (frames 4 14) ∷ unanchored (frames 10 22) ∷ anchored (frames 18 30) ∷ []) ≡ frames 4 14 ∷ frames 14 18 ∷ frames 18 30 ∷ []
+clip-between = clip.between
+
+pub clip-first : reported (unanchored (frames 20 28) ∷ anchored (frames 15 30) ∷ []) ≡ frames 20 20 ∷ frames 15 30 ∷ []
+clip-first = clip.at-first
+
+-- ---- "1000000.5 narrows to 49742400": 1,000,000.5 = 2,000,001 / 2
+
+pub narrows : toBits binary32 (clampedLog (fin false 2000001 (negsuc 0))) ≡ 0x49742400
+unfolding clampedLog clamped narrowed isNan lt round toBits
+narrows = refl
+
+-- ---- "boundaries 0, 6, 12, all values zero, relaxed, one unit: 0..6"
+
+abbrev nought : Float
+nought = fin false 0 (pos 0)
+
+abbrev stageOf : List ℕ → ℕ → List ℕ → Stage
+stageOf anchors firstRow boundaries = record { anchors = anchors; firstRow = firstRow; boundaries = boundaries; duration = λ frames. nought }
+
+abbrev candidate : Candidate
+candidate = record { id = 1; columns = 0 ∷ [] }
+
+-- a mask of ones, speech throughout, and no figure but zero
+abbrev zeroPhrase : ℕ → Stage → Stage → Phrase
+zeroPhrase frames nuclei added = record {
+  mask = replicate frames 1;
+  nuclei = nuclei;
+  added = added;
+  score = λ row column. nought;
+  candidates = candidate ∷ [];
+  costs = record { «per_frame» = nought; «insertion_llr» = nought; «unvoiced» = nought };
+  speech = spoken 0 frames;
+}
+
+-- the only nucleus is past the last boundary, so that no strict unit is there
+pub lowest-first : entryOf (zeroPhrase 13 (stageOf (12 ∷ []) 0 (0 ∷ 6 ∷ 12 ∷ [])) (stageOf [] 1 [])) candidate ≡ record {
+  id = 1;
+  pass = 3;
+  total = nought;
+  llr = nought;
+  units = record { start = 0; end = 6; row = noRow } ∷ [];
+}
+unfolding workedEntry
+lowest-first = refl

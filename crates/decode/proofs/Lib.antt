@@ -1,0 +1,7 @@
+-- Laws of this layer's definitions.
+pub mod Bounded
+mod Units
+pub mod Demands
+pub mod Decodes
+pub mod OneOutcome
+mod Group

@@ -1,0 +1,68 @@
+-- The contract leaves nothing open: two outcomes of one call that both meet it are the same, in the answer and in every lent buffer.
+use Prim.Native.Nat.{ℕ, zero, suc, _-_}
+use mathlib.Core.List.{List, [], _∷_}
+use mathlib.Core.Option.{Option, none, some}
+use mathlib.Core.Path.{_≡_, refl, sym, ap, _∙_}
+use borrow.Author.Tests.{eqb-false}
+use lib.ListN.{length, getD}
+use lib.Ieee.{Float}
+use Rattle.evidence.specs.Outcome.{Outcome, accepted, refused}
+use Rattle.record.specs.Refusals.{numberOf, refusalWith}
+use Rattle.record.specs.declared.refusal.Refusal.{Refusal}
+use Rattle.record.specs.declared.refusal.Refusal.the-variants.{Stub, Edition, Size, Reach, Track, Cost, Bare, Twice, Units, Column, Desk}
+use Rattle.decode.specs.Contract.{outcome, Decodes}
+use Rattle.decode.specs.declared.answer.Decoded.{Decoded}
+use Rattle.decode.specs.declared.answer.Decoded.the-variants.{Entries, Refused}
+
+-- ---- an answer is known by its number and value
+
+-- the refusal of each number
+abbrev named : ℕ → Refusal
+named n = getD (Stub ∷ Edition ∷ Size ∷ Reach ∷ Track ∷ Cost ∷ Bare ∷ Twice ∷ Units ∷ Column ∷ Desk ∷ []) (n - 1) Stub
+
+named-number : (q : Refusal) → named (numberOf q) ≡ q
+named-number Stub = refl
+named-number Edition = refl
+named-number Size = refl
+named-number Reach = refl
+named-number Track = refl
+named-number Cost = refl
+named-number Bare = refl
+named-number Twice = refl
+named-number Units = refl
+named-number Column = refl
+named-number Desk = refl
+
+abbrev given : Outcome ℕ → Decoded
+given (accepted count) = Entries count
+given (refused number) = Refused (named number)
+
+given-outcome : (answer : Decoded) → given (outcome answer) ≡ answer
+given-outcome (Entries count) = refl
+given-outcome (Refused q) = ap Refused (named-number q)
+
+-- ---- the outcomes of a call
+
+pub record Same (answer answer′ : Decoded) (best best′ : List Float) (back back′ out out′ : List ℕ) : Type 0 where
+  pub answers : answer ≡ answer′
+  pub values : best ≡ best′
+  pub marks : back ≡ back′
+  pub words : out ≡ out′
+
+pub one-outcome :
+    (bytes : List ℕ) (best : List Float) (back out : List ℕ) {a₁ a₂ : Decoded} {best₁ best₂ : List Float} {back₁ back₂ out₁ out₂ : List ℕ} →
+    Decodes bytes best back out a₁ best₁ back₁ out₁ → Decodes bytes best back out a₂ best₂ back₂ out₂ → Same a₁ a₂ best₁ best₂ back₁ back₂ out₁ out₂
+one-outcome bytes best back out {a₁} {a₂} {best₁} {best₂} {back₁} {back₂} {out₁} {out₂} one two = go (refusalWith bytes (length best) (length back) (length out)) refl
+  where
+    answers : a₁ ≡ a₂
+    answers = sym (given-outcome a₁) ∙ ap given (one .answered ∙ sym (two .answered)) ∙ given-outcome a₂
+
+    go : (o : Option Refusal) → refusalWith bytes (length best) (length back) (length out) ≡ o → Same a₁ a₂ best₁ best₂ back₁ back₂ out₁ out₂
+    go none e =
+        let w = one .accepts e in
+        let v = two .accepts e in
+        record { answers = answers; values = w .values ∙ sym (v .values); marks = w .marks ∙ sym (v .marks); words = w .words ∙ sym (v .words) }
+    go (some q) e =
+        let w = one .refuses q e in
+        let v = two .refuses q e in
+        record { answers = answers; values = w .values ∙ sym (v .values); marks = w .marks ∙ sym (v .marks); words = w .words ∙ sym (v .words) }

@@ -1,0 +1,70 @@
+-- The units reported for a path (document 01, "Spans, marks and order"): "The units reported are the chosen path's, in path order, each
+-- with its anchor's row or 4,294,967,295. A unit with an anchor reports its row's span, by its own stage's boundaries. One without reports
+-- its path frames, then `clip_unanchored`."
+use Prim.Native.Nat.{ℕ}
+use mathlib.Core.List.{List, [], _∷_, map, zipWith}
+use Rattle.phrase.specs.Phrase.{Phrase, Stage, Speech, silent, spoken}
+use Rattle.paths.specs.declared.passes.Pass.{Pass}
+use Rattle.paths.specs.declared.passes.Pass.the-variants.{NucleiStrict, CountStrict, CountRelaxed, NucleiRelaxed}
+use Rattle.paths.specs.Path.{Path}
+use Rattle.paths.specs.Marks.{Bounds, unitsOf}
+use Rattle.paths.specs.Anchors.{Anchor, kept, heldIn}
+use Rattle.paths.specs.StageProblem.{boundary}
+use Rattle.paths.specs.LookAhead.{rowOr}
+use Rattle.evidence.specs.Spans.{spanOf}
+use Rattle.clip.specs.declared.clip.Span.{Span}
+use Rattle.clip.specs.Clip.{Placed, anchored, unanchored, reported}
+use Rattle.entries.specs.Entry.{ReportedUnit, noRow}
+
+-- the stage that a pass searches
+abbrev pub stageOf : Phrase → Pass → Stage
+stageOf phrase NucleiStrict = phrase .nuclei
+stageOf phrase CountStrict = phrase .added
+stageOf phrase CountRelaxed = phrase .added
+stageOf phrase NucleiRelaxed = phrase .nuclei
+
+-- "Speech start and end are the edges"; 0 without speech
+abbrev pub lowEdge : Speech → ℕ
+lowEdge silent = 0
+lowEdge (spoken start end) = start
+
+abbrev pub highEdge : Speech → ℕ
+highEdge silent = 0
+highEdge (spoken start end) = end
+
+-- The span of an anchor's row, among all frames that the stage lists: those outside the mask are dropped from the search only.
+unfoldable pub rowSpan : Phrase → Stage → ℕ → Span
+unfolding spanOf
+rowSpan phrase stage frame =
+    let span = spanOf (stage .anchors) (stage .boundaries) (lowEdge (phrase .speech)) (highEdge (phrase .speech)) frame in
+    record { start = span .start; end = span .end }
+
+-- the path frames of a unit, from boundary to boundary
+abbrev pub pathSpan : Stage → Bounds → Span
+pathSpan stage unit = record { start = boundary stage (unit .first); end = boundary stage (unit .last) }
+
+-- the anchors that a unit holds: one, or none in a relaxed pass
+abbrev pub heldBy : Phrase → Stage → Bounds → List Anchor
+heldBy phrase stage unit = heldIn (kept phrase stage) (boundary stage (unit .first)) (boundary stage (unit .last))
+
+-- a unit before clipping, by the anchors that it holds
+unfoldable pub placedBy : Phrase → Stage → Bounds → List Anchor → Placed
+unfolding rowSpan
+placedBy phrase stage unit [] = unanchored (pathSpan stage unit)
+placedBy phrase stage unit (anchor ∷ more) = anchored (rowSpan phrase stage (anchor .frame))
+
+abbrev pub placed : Phrase → Stage → Bounds → Placed
+placed phrase stage unit = placedBy phrase stage unit (heldBy phrase stage unit)
+
+-- a reported span with the row of the anchor that the unit holds
+abbrev pub reportedUnit : List Anchor → Span → ReportedUnit
+reportedUnit anchors span = record { start = span .start; end = span .end; row = rowOr noRow anchors }
+
+-- the units of a stage, reported
+unfoldable pub reportedIn : Phrase → Stage → List Bounds → List ReportedUnit
+unfolding heldIn placedBy reported
+reportedIn phrase stage units = zipWith reportedUnit (map (heldBy phrase stage) units) (reported (map (placed phrase stage) units))
+
+-- the units of a path that a pass found
+abbrev pub reportedUnits : Phrase → Pass → Path → List ReportedUnit
+reportedUnits phrase pass path = reportedIn phrase (stageOf phrase pass) (unitsOf path)

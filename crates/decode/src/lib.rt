@@ -1,0 +1,3 @@
+// Decoding: from a phrase record to its result words. What it promises is in specs/Contract.antt.
+
+pub mod answer;

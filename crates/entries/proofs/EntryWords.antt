@@ -1,0 +1,71 @@
+-- How many words entries have, and how an entry's words come to stand in the output.
+use Prim.Native.Nat.{ℕ, zero, suc, _+_, _-_, _*_, _≤_}
+use mathlib.Core.Path.{_≡_, refl, sym, ap, ap₂, _∙_}
+use mathlib.Core.List.{List, [], _∷_, _++_, append-assoc}
+use native.Mathlib.Nat.{zero-mul, suc-mul}
+use native.Mathlib.Omega.{arith}
+use lib.ListN.{length, take, drop, replicate, length-append, length-replicate}
+use lib.Seq.{sets, sets-eq}
+use lib.Ieee.{binary32, toBits}
+use Rattle.entries.specs.Entry.{ReportedUnit, Entry}
+use Rattle.entries.specs.Words.{unitWords, entryWords, wordsOf, allWords}
+use Rattle.entries.specs.Placing.{unitsFrom, Fit, All, none, more}
+use Rattle.entries.proofs.Stores.{sets-append}
+
+pub length-unitsFrom : (starts ends rows : List ℕ) (left i : ℕ) → length (unitsFrom starts ends rows left i) ≡ left
+unfolding unitsFrom
+length-unitsFrom starts ends rows zero i = refl
+length-unitsFrom starts ends rows (suc left) i = ap suc (length-unitsFrom starts ends rows left (suc i))
+
+length-unitWords : (us : List ReportedUnit) → length (unitWords us) ≡ 3 * length us
+unfolding unitWords
+length-unitWords [] = refl
+length-unitWords (u ∷ us) = omega (arith, length-unitWords us)
+
+pub length-wordsOf : (most : ℕ) (e : Entry) → length (e .units) ≤ most → length (wordsOf most e) ≡ entryWords most
+unfolding wordsOf
+length-wordsOf most e few =
+    omega (
+      arith,
+      length-append (unitWords (e .units)) (replicate (3 * (most - length (e .units))) 0),
+      length-unitWords (e .units),
+      length-replicate {A = ℕ} (3 * (most - length (e .units))) 0,
+    )
+
+pub length-allWords : (most : ℕ) {es : List Entry} → All (Fit most) es → length (allWords most es) ≡ length es * entryWords most
+unfolding allWords
+length-allWords most none = sym (zero-mul (entryWords most))
+length-allWords most (more {e} {es} fit fits) =
+    length-append (wordsOf most e) (allWords most es)
+    ∙ ap₂ _+_ (length-wordsOf most e (fit .few)) (length-allWords most fits)
+    ∙ omega (arith, suc-mul (length es) (entryWords most))
+
+pub allWords-append : (most : ℕ) (xs ys : List Entry) → allWords most (xs ++ ys) ≡ allWords most xs ++ allWords most ys
+unfolding allWords
+allWords-append most [] ys = refl
+allWords-append most (x ∷ xs) ys = ap (λ (l : List ℕ). wordsOf most x ++ l) (allWords-append most xs ys) ∙ sym (append-assoc (wordsOf most x) (allWords most xs) (allWords most ys))
+
+-- The head, the units and the zeros that fill up, stored one after the other: the words of the entry.
+module _ (most : ℕ) (e : Entry) (l : List ℕ) (at k : ℕ) (counted : length (e .units) ≡ k) (few : k ≤ most) (within : at + entryWords most ≤ length l) where
+  pub stored : {headed listed filled : List ℕ}
+      → headed ≡ sets l at (e .id ∷ toBits binary32 (e .llr) ∷ e .pass ∷ k ∷ [])
+      → listed ≡ sets headed (at + 4) (unitWords (e .units))
+      → filled ≡ sets listed (at + 4 + 3 * k) (replicate (at + entryWords most - (at + 4 + 3 * k)) 0)
+      → filled ≡ take at l ++ wordsOf most e ++ drop (at + entryWords most) l
+  unfolding wordsOf
+  stored {headed} {listed} first second third =
+      let units : List ℕ = unitWords (e .units) in
+      let zeros : List ℕ = replicate (3 * (most - length (e .units))) 0 in
+      let head : List ℕ = e .id ∷ toBits binary32 (e .llr) ∷ e .pass ∷ length (e .units) ∷ [] in
+      let used : at + 4 + 3 * k ≡ at + 4 + length units = omega (arith, length-unitWords (e .units)) in
+      let left : at + entryWords most - (at + 4 + 3 * k) ≡ 3 * (most - length (e .units)) = omega arith in
+      let size : length (wordsOf most e) ≡ entryWords most = length-wordsOf most e (omega arith) in
+      third
+      ∙ ap₂ (λ (n m : ℕ). sets listed n (replicate m 0)) used left
+      ∙ ap (λ (r : List ℕ). sets r (at + 4 + length units) zeros) second
+      ∙ sym (sets-append headed units zeros (at + 4))
+      ∙ ap (λ (r : List ℕ). sets r (at + 4) (units ++ zeros)) first
+      ∙ ap (λ (n : ℕ). sets (sets l at (e .id ∷ toBits binary32 (e .llr) ∷ e .pass ∷ n ∷ [])) (at + 4) (units ++ zeros)) (sym counted)
+      ∙ sym (sets-append l head (units ++ zeros) at)
+      ∙ sets-eq (wordsOf most e) l at (omega (arith, size))
+      ∙ ap (λ (n : ℕ). take at l ++ wordsOf most e ++ drop (at + n) l) size

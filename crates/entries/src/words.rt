@@ -1,0 +1,85 @@
+// The words of one result entry (document 01, "Spans, marks and order").
+
+ghost use mathlib.Core.Path.{_≡_};
+ghost use mathlib.Core.Bool.{not};
+ghost use mathlib.Core.List.{[], _∷_, _++_};
+ghost use Prim.Native.Nat.{_+_, _*_, _-_, _≤_};
+ghost use lib.Dec.{T};
+ghost use lib.ListN.{length, take, drop, replicate};
+ghost use lib.Seq.{sets};
+ghost use lib.Ieee.{Float, binary32, isNan, toBits};
+ghost use Rattle.entries.specs.Words.{unitWords, entryWords, wordsOf};
+ghost use Rattle.entries.specs.Placing.{mostUnits, unitsFrom, entryFrom};
+
+// How many units an entry has room for.
+pub const MOST_UNITS: usize = 16;
+
+// Id, llr, pass and count of units stand before the units.
+const HEAD_WORDS: usize = 4;
+
+pub const ENTRY_WORDS: usize = HEAD_WORDS + 3 * MOST_UNITS;
+
+// An entry without its units.
+pub struct EntryHead {
+    pub id: u32,
+    pub llr: f32,
+    pub pass: u32,
+    pub units: usize,
+}
+
+fn put_head(out: &mut [u32], at: usize, head: EntryHead)
+    requires { ⌜ (at + 4 ≤ length (now out)) × (head .units ≤ mostUnits) × T (not (isNan (head .llr))) ⌝ }
+    ensures { λ r. ⌜ now (out .exit) ≡ sets (now (out .entry)) at (head .id ∷ toBits binary32 (head .llr) ∷ head .pass ∷ head .units ∷ []) ⌝ }
+{
+    let llr = head.llr;
+    out[at] = head.id;
+    out[at + 1] = f32::to_bits(llr);
+    out[at + 2] = head.pass;
+    out[at + 3] = head.units as u32;
+}
+
+fn put_units(out: &mut [u32], at: usize, count: usize, starts: &[u32], ends: &[u32], rows: &[u32])
+    requires { ⌜ (at + 3 * count ≤ length (now out)) × (count ≤ length (now starts)) × (count ≤ length (now ends)) × (count ≤ length (now rows)) ⌝ }
+    ensures { λ r. ⌜ now (out .exit) ≡ sets (now (out .entry)) at (unitWords (unitsFrom (now (starts .entry)) (now (ends .entry)) (now (rows .entry)) count 0)) ⌝ }
+{
+    let mut i = 0;
+    while i < count {
+        let to = at + 3 * i;
+        out[to] = starts[i];
+        out[to + 1] = ends[i];
+        out[to + 2] = rows[i];
+        i += 1;
+    }
+}
+
+fn put_zeros(out: &mut [u32], from: usize, to: usize)
+    requires { ⌜ (from ≤ to) × (to ≤ length (now out)) ⌝ }
+    ensures { λ r. ⌜ now (out .exit) ≡ sets (now (out .entry)) from (replicate (to - from) 0) ⌝ }
+{
+    let mut i = from;
+    while i < to {
+        out[i] = 0;
+        i += 1;
+    }
+}
+
+// The entry's words at word `at`; its units are the first of the three lists.
+pub fn put_entry(
+    out: &mut [u32],
+    at: usize,
+    head: EntryHead,
+    starts: &[u32],
+    ends: &[u32],
+    rows: &[u32],
+)
+    requires { ⌜ at + entryWords mostUnits ≤ length (now out) ⌝ }
+    requires { ⌜ (head .units ≤ mostUnits) × T (not (isNan (head .llr))) ⌝ }
+    requires { ⌜ (head .units ≤ length (now starts)) × (head .units ≤ length (now ends)) × (head .units ≤ length (now rows)) ⌝ }
+    ensures { λ r. ⌜ ((total : Float) → now (out .exit) ≡ take at (now (out .entry)) ++ wordsOf mostUnits (entryFrom head (now (starts .entry)) (now (ends .entry)) (now (rows .entry)) total) ++ drop (at + entryWords mostUnits) (now (out .entry))) ⌝ }
+{
+    let units = head.units;
+    let unused = at + HEAD_WORDS + 3 * units;
+    put_head(out, at, head);
+    put_units(out, at + HEAD_WORDS, units, starts, ends, rows);
+    put_zeros(out, unused, at + ENTRY_WORDS);
+}
