@@ -4,4 +4,6 @@ mod Units
 pub mod Demands
 pub mod Decodes
 pub mod OneOutcome
+mod Placing
+mod Fronts
 mod Group

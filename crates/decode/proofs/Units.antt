@@ -19,7 +19,7 @@ unfolding reportAfter
 length-reportAfter low [] = refl
 length-reportAfter low (unit ∷ later) = ap suc (length-reportAfter _ later)
 
-length-reported : (units : List Placed) → length (reported units) ≡ length units
+pub length-reported : (units : List Placed) → length (reported units) ≡ length units
 unfolding reported
 length-reported [] = refl
 length-reported (unit ∷ later) = length-reportAfter _ (unit ∷ later)

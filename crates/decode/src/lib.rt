@@ -1,3 +1,4 @@
 // Decoding: from a phrase record to its result words. What it promises is in specs/Contract.antt.
 
 pub mod answer;
+pub mod report;
