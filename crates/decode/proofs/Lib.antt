@@ -6,4 +6,5 @@ pub mod Decodes
 pub mod OneOutcome
 mod Placing
 mod Fronts
+mod Reporting
 mod Group

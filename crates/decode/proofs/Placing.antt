@@ -4,7 +4,7 @@ use mathlib.Core.Bool.{Bool, true, false, not, cond, _&&_}
 use mathlib.Core.List.{List, [], _∷_, _++_, map}
 use mathlib.Core.Path.{_≡_, refl, sym, ap, ap₂, subst, _∙_}
 use native.Mathlib.Omega.{arith}
-use borrow.Author.Tests.{lt-ltb, le-ltb}
+use borrow.Author.Tests.{lt-ltb, le-ltb, ne-eqb}
 use lib.Dec.{T, ltb, leb, eqb, ltb→lt, nltb→le, leb→le, eqb→eq}
 use lib.ListN.{length, getD}
 use Rattle.phrase.specs.Phrase.{Phrase, Stage}
@@ -74,23 +74,46 @@ module _ (phrase : Phrase) (stage : Stage) (up : Increasing (stage .anchors)) (l
             absurd (omega (arith, few, holds-more (kept-rising (phrase .mask) (stage .firstRow) (stage .anchors) up) beyond from to (last _ (ok .inside)) (less tt)))
         go false less more = more tt
 
-    pub placed-by-tables :
-        placeOf (stage .anchors) (stage .boundaries) (lowEdge (phrase .speech)) (highEdge (phrase .speech)) from to ahead (rowAhead 0 (kept phrase stage) from)
-        ≡ placeIn phrase stage unit
-    unfolding placeOf placedBy rowSpan
-    placed-by-tables = go (ltb ahead to) (ltb→lt ahead to) (nltb→le ahead to)
+    -- what holds of no anchor where the first ahead is not before the end, and else of that one, holds of the anchors held
+    pub held-either : (P : List Anchor → Type 0) → (to ≤ ahead → P []) → (ahead < to → P (record { frame = ahead; row = rowAhead 0 (kept phrase stage) from } ∷ []))
+        → P (heldBy phrase stage unit)
+    held-either P none one = go (ltb ahead to) (ltb→lt ahead to) (nltb→le ahead to)
       where
         rising : Rising 0 (kept phrase stage)
         rising = kept-rising (phrase .mask) (stage .firstRow) (stage .anchors) up
 
+        go : (b : Bool) → (T b → ahead < to) → (T (not b) → to ≤ ahead) → P (heldBy phrase stage unit)
+        go true less more = subst P (sym (holds-one rising beyond from to (last _ (ok .inside)) 0 (less tt) no-second)) (one (less tt))
+        go false less more = subst P (sym (holds-none rising beyond from to (last _ (ok .inside)) (more tt))) (none (more tt))
+
+    pub placed-by-tables :
+        placeOf (stage .anchors) (stage .boundaries) (lowEdge (phrase .speech)) (highEdge (phrase .speech)) from to ahead (rowAhead 0 (kept phrase stage) from)
+        ≡ placeIn phrase stage unit
+    unfolding placeOf placedBy rowSpan
+    placed-by-tables =
+        held-either (λ anchors. place (ltb ahead to) ≡ placeFor phrase stage unit anchors)
+        (λ h. ap place (le-ltb ahead to h))
+        (λ h. ap place (lt-ltb ahead to h))
+      where
         span : Evidence.Span
         span = spanOf (stage .anchors) (stage .boundaries) (lowEdge (phrase .speech)) (highEdge (phrase .speech)) ahead
 
-        go : (b : Bool) → (T b → ahead < to) → (T (not b) → to ≤ ahead)
-            → cond b (record { start = span .start; end = span .end; row = rowAhead 0 (kept phrase stage) from }) (record { start = from; end = to; row = noRow })
-            ≡ placeIn phrase stage unit
-        go true less more = ap (placeFor phrase stage unit) (sym (holds-one rising beyond from to (last _ (ok .inside)) 0 (less tt) no-second))
-        go false less more = ap (placeFor phrase stage unit) (sym (holds-none rising beyond from to (last _ (ok .inside)) (more tt)))
+        place : Bool → PlacedUnit
+        place b = cond b (record { start = span .start; end = span .end; row = rowAhead 0 (kept phrase stage) from }) (record { start = from; end = to; row = noRow })
+
+    -- the row says whether there is an anchor
+    pub told-by-row : rowAhead 0 (kept phrase stage) from < noRow →
+        let place = placeIn phrase stage unit in
+        let span : Span = record { start = place .start; end = place .end } in
+        cond (eqb (place .row) noRow) (unanchored span) (anchored span) ≡ placed phrase stage unit
+    unfolding placedBy
+    told-by-row below =
+        held-either (λ anchors.
+        let place = placeFor phrase stage unit anchors in
+        let span : Span = record { start = place .start; end = place .end } in
+        cond (eqb (place .row) noRow) (unanchored span) (anchored span) ≡ placedBy phrase stage unit anchors)
+        (λ h. refl)
+        (λ h. ap (λ (b : Bool). cond b (unanchored (rowSpan phrase stage ahead)) (anchored (rowSpan phrase stage ahead))) (ne-eqb (rowAhead 0 (kept phrase stage) from) noRow (λ e. omega arith)))
 
 -- ---- a unit with its anchor, and one without
 

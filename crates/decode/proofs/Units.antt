@@ -31,7 +31,7 @@ length-zip held [] spans e = refl
 length-zip held (unit ∷ units) [] e = e
 length-zip held (unit ∷ units) (span ∷ spans) e = ap suc (length-zip held units spans (omega arith))
 
-length-reportedIn : (phrase : Phrase) (stage : Stage) (units : List Bounds) → length (reportedIn phrase stage units) ≡ length units
+pub length-reportedIn : (phrase : Phrase) (stage : Stage) (units : List Bounds) → length (reportedIn phrase stage units) ≡ length units
 unfolding reportedIn
 length-reportedIn phrase stage units =
     length-zip (heldBy phrase stage) units _ (length-reported (map (placed phrase stage) units) ∙ length-map units (placed phrase stage))

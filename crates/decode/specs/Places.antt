@@ -4,7 +4,9 @@ use mathlib.Core.Bool.{cond}
 use mathlib.Core.List.{List, map}
 use mathlib.Core.Path.{_≡_}
 use lib.Dec.{ltb}
-use lib.ListN.{length, getD, take}
+use lib.IntN.{pos}
+use lib.ListN.{length, getD, take, replicate}
+use lib.Ieee.{Float, binary32, mul, ofInt}
 use Rattle.evidence.specs.Spans.{spanOf}
 use Rattle.evidence.specs.declared.evidence.Span.{Span}
 use Rattle.entries.specs.Entry.{ReportedUnit, noRow}
@@ -62,8 +64,24 @@ pub record ReportedAll (side : Side) (lo hi : ℕ) (units : Units) (k : ℕ) (r 
   pub ends : r .ends ≡ padded (endsOf (reported (placedList side lo hi units k))) 16 0
   pub rows : r .rows ≡ tableOf (λ i. placeAt side lo hi units i .row) k 16 0
 
--- the arrays hold these units
+-- "k empty spans": one for each place of an entry
+abbrev pub missedAt : ℕ → Reported
+missedAt at = record { starts = replicate 16 at; ends = replicate 16 at; rows = replicate 16 noRow }
+
+-- "f32 k × unvoiced"
+abbrev pub missedBy : ℕ → Float → Float
+missedBy k score = mul binary32 (ofInt binary32 (pos k)) score
+
+-- stands for a unit past the last
+abbrev pub unitless : ReportedUnit
+unitless = record { start = 0; end = 0; row = 0 }
+
+-- The first units of the arrays are these.
 pub record Holds (units : List ReportedUnit) (r : Reported) : Type 0 where
-  pub starts : r .starts ≡ padded (map (λ unit. unit .start) units) 16 0
-  pub ends : r .ends ≡ padded (map (λ unit. unit .end) units) 16 0
-  pub rows : r .rows ≡ padded (map (λ unit. unit .row) units) 16 0
+  pub few : length units ≤ 16
+  pub starts : (i : ℕ) → i < length units → getD (r .starts) i 0 ≡ getD units i unitless .start
+  pub ends : (i : ℕ) → i < length units → getD (r .ends) i 0 ≡ getD units i unitless .end
+  pub rows : (i : ℕ) → i < length units → getD (r .rows) i 0 ≡ getD units i unitless .row
+  pub startsLong : length (r .starts) ≡ 16
+  pub endsLong : length (r .ends) ≡ 16
+  pub rowsLong : length (r .rows) ≡ 16

@@ -1,4 +1,5 @@
 // Decoding: from a phrase record to its result words. What it promises is in specs/Contract.antt.
 
 pub mod answer;
+pub mod missed;
 pub mod report;
