@@ -1,3 +1,4 @@
 -- What is proved of parts of the work areas, and of rows.
 pub mod Parts
 pub mod Filling
+pub mod Bridge

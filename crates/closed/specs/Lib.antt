@@ -1,2 +1,3 @@
 -- The definitions of this layer: the tables of a problem, and the rows that are filled from them.
 pub mod Filled
+pub mod Searched
