@@ -2,3 +2,4 @@
 pub mod Parts
 pub mod Filling
 pub mod Bridge
+pub mod Chosen
