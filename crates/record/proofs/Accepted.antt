@@ -166,7 +166,13 @@ pub counts : {bytes : List ℕ} {at : Layout} → Laid bytes at → Counted edit
 counts {bytes} h = subst⁻¹ (Counted edition1) (h .layout) (counted edition1 bytes (sized edition1 (trailerOf bytes) (laid-passed h .size)))
 
 -- the law for those above: an accepted record's phrase fits
-pub fit : {bytes : List ℕ} {at : Layout} → Laid bytes at → Fit edition1 (at .scores .count) (phraseOf bytes)
+pub fit-at : {bytes : List ℕ} {at : Layout} → Laid bytes at → Fit edition1 (at .scores .count) (phraseAt edition1 bytes at)
+fit-at {bytes} h =
+    subst⁻¹ (λ (x : Layout). Fit edition1 (x .scores .count) (phraseAt edition1 bytes x)) (h .layout) (phrase-fits edition1 bytes (laid-passed h))
+
+pub meaning : {bytes : List ℕ} {at : Layout} → Laid bytes at → phraseAt edition1 bytes at ≡ phraseOf bytes
 unfolding phraseOf
-fit {bytes} h =
-    subst⁻¹ (λ (x : Layout). Fit edition1 (x .scores .count) (phraseAt edition1 bytes (layoutOf bytes))) (h .layout) (phrase-fits edition1 bytes (laid-passed h))
+meaning {bytes} h = ap (phraseAt edition1 bytes) (h .layout)
+
+pub fit : {bytes : List ℕ} {at : Layout} → Laid bytes at → Fit edition1 (at .scores .count) (phraseOf bytes)
+fit {at = at} h = subst (Fit edition1 (at .scores .count)) (meaning h) (fit-at h)

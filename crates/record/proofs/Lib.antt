@@ -9,5 +9,6 @@ pub mod Passed
 pub mod Fits
 pub mod Accepted
 pub mod Answers
+pub mod Reading
 pub mod Figures
 pub mod SamplePhrase

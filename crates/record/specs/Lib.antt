@@ -8,4 +8,5 @@ pub mod Bounds
 pub mod Refusals
 pub mod Meaning
 pub mod Accepted
+pub mod Reading
 pub mod Sample

@@ -6,6 +6,7 @@ pub mod check;
 pub mod cost;
 pub mod layout;
 pub mod limits;
+pub mod read;
 pub mod refusal;
 pub mod size;
 pub mod track;

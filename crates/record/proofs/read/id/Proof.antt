@@ -1,0 +1,35 @@
+use mathlib.Core.Path.{_≡_, refl, sym, ap, ap₂, subst, subst⁻¹, _∙_}
+use Prim.Native.Nat.{ℕ, _+_, _-_, _*_, _≤_, _<_}
+use denote.Ref.{now}
+use lib.ListN.{length, getD, take, drop}
+use Rattle.phrase.specs.Phrase.{Phrase, Stage, Candidate, spoken}
+use Rattle.record.specs.Meaning.{phraseAt, phraseOf, costsAt, candidateAt}
+use Rattle.record.specs.Edition.{edition1}
+use Rattle.record.specs.Bounds.{CandidatesRead}
+use Rattle.record.specs.declared.limits.Limits.{Limits}
+use Rattle.record.specs.declared.layout.Layout.{Layout}
+use Rattle.record.proofs.Reading.{candidates-read, candidate-there, candidate-is}
+use Rattle.record.specs.Conditions.{idAt, unitsAt, columnAt}
+use borrow.Author.Needs.{needs}
+use Rattle.record.proofs.read.id.Statement.{statement}
+use Rattle.record.proofs.read.id.Tie as tie
+
+edition-1-requires : tie.Need-edition-1-requires
+edition-1-requires c κs = search needs
+
+id-at-requires : tie.Need-id-at-requires
+id-at-requires c κs =
+    let start = c .before .before in (
+      subst⁻¹ (λ (l : Limits). CandidatesRead l (length (now (start .args .bytes))) (start .args .at)) (c .edition-1 .ensures) (candidates-read (start .pre .0)),
+      candidate-there (start .pre .0) (start .pre .1),
+    )
+
+returns : tie.Need-returns
+returns c =
+    let start = c .before .before .before in
+    c .id-at .ensures
+    ∙ ap (λ (l : Limits). idAt l (now (start .args .bytes)) (start .args .at) (start .args .i)) (c .before .edition-1 .ensures)
+    ∙ ap (λ (x : Candidate). x .id) (candidate-is (start .pre .0) (start .pre .1))
+
+pub id-spec : {M : Type 1} → statement M
+id-spec = tie.close (tie.spec edition-1-requires id-at-requires returns)

@@ -1,0 +1,28 @@
+use mathlib.Core.Path.{_≡_, refl, sym, ap, ap₂, subst, subst⁻¹, _∙_}
+use mathlib.Core.Bool.{Bool, not, _&&_}
+use Prim.Native.Nat.{ℕ, _+_, _-_, _*_, _≤_, _<_}
+use lib.Dec.{T}
+use lib.Ieee.{binary32, ofBits, isNan}
+use Rattle.record.proofs.Reading.{real-bits}
+use borrow.Author.Needs.{needs}
+use Rattle.record.proofs.read.score.Statement.{statement}
+use Rattle.record.proofs.read.score.Tie as tie
+
+mul-u32-at : tie.Need-mul-u32-at
+mul-u32-at c = search needs
+
+u32-at-requires : tie.Need-u32-at-requires
+u32-at-requires c κs = search needs
+
+-- what was read is no NaN
+real : (c : tie.After-u32-at) → T (not (isNan (ofBits binary32 (c .u32-at .result))))
+real c = subst⁻¹ (λ (p : ℕ). T (not (isNan (ofBits binary32 p)))) (c .u32-at .ensures) (c .before .before .pre .1)
+
+float-from-bits-result : tie.Need-float-from-bits-result
+float-from-bits-result c = real-bits binary32 (c .u32-at .result) (real c)
+
+returns : tie.Need-returns
+returns c = record { is = ap (ofBits binary32) (c .u32-at .ensures); real = real c }
+
+pub score-spec : {M : Type 1} → statement M
+score-spec = tie.close (tie.spec mul-u32-at u32-at-requires float-from-bits-result returns)
