@@ -1,8 +1,8 @@
 -- The problem that the tables of a stage and a candidate's scores give, as the search reads it.
-use Prim.Native.Nat.{ℕ, _≤_, _<_}
+use Prim.Native.Nat.{ℕ, _+_, _≤_, _<_}
 use mathlib.Core.List.{List}
 use mathlib.Core.Path.{_≡_}
-use lib.Ieee.{Float, nan}
+use lib.Ieee.{Float, binary64, nan, ofBits}
 use lib.ListN.{length, getD}
 use Rattle.phrase.specs.Phrase.{Phrase}
 use Rattle.paths.specs.declared.passes.Strictness.{Strictness}
@@ -16,6 +16,19 @@ use Rattle.closed.specs.Filled.{StartsOf}
 -- the scores of a column in the rows listed
 abbrev pub ScoresOf : Phrase → List ℕ → ℕ → ℕ → List Float → Type 0
 ScoresOf phrase rows n column scores = (i : ℕ) → i < n → getD scores i nan ≡ phrase .score (getD rows i 0) column
+
+-- how many rows of scores a phrase has
+abbrev pub scoreRows : Phrase → ℕ
+scoreRows phrase = length (phrase .nuclei .anchors) + length (phrase .added .anchors)
+
+abbrev pub RowsBelow : List ℕ → ℕ → ℕ → Type 0
+RowsBelow rows n most = (i : ℕ) → i < n → getD rows i 0 < most
+
+-- an array of them, 0 past the last
+pub record Scored (phrase : Phrase) (rows : List ℕ) (n column : ℕ) (scores : List Float) : Type 0 where
+  pub sized : length scores ≡ 64
+  pub given : ScoresOf phrase rows n column scores
+  pub rest : (i : ℕ) → n ≤ i → i < 64 → getD scores i nan ≡ ofBits binary64 0
 
 -- the tables of one unit, with its scores
 abbrev pub unitsWith : StageTables → List Float → Float → Strictness → UnitTables
@@ -35,4 +48,4 @@ pub record Readable (t : StageTables) (scoreRows : ℕ) : Type 0 where
   pub few : t .size ≤ 64
   pub ascending : (i j : ℕ) → i ≤ j → j < t .size → getD (t .bounds) i 0 ≤ getD (t .bounds) j 0
   pub anchors : (i : ℕ) → i < t .size → getD (t .first) i 0 ≤ getD (t .second) i 0
-  pub rows : (i : ℕ) → i < t .size → getD (t .row) i 0 < scoreRows
+  pub rows : RowsBelow (t .row) (t .size) scoreRows
