@@ -3,3 +3,4 @@ pub mod Parts
 pub mod Filling
 pub mod Bridge
 pub mod Chosen
+pub mod AllRows

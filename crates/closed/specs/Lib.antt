@@ -2,3 +2,4 @@
 pub mod Filled
 pub mod Searched
 pub mod Reported
+pub mod Asked

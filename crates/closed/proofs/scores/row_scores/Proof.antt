@@ -58,12 +58,12 @@ cast-row : tie.Need-cast-row Inv-loop μ-loop
 cast-row c = omega (arith, c .shared-slice-known3 .given (c .before .before .loop .i))
 
 score-row-requires : tie.Need-score-row-requires Inv-loop μ-loop
-score-row-requires c κs = 
+score-row-requires c κs =
     let start = c .before .before .before .before .before in
     (start .pre .0 .0, start .pre .1 .2 (c .before .before .loop .i) (c .before .loop-test .taken))
 
 score-requires : tie.Need-score-requires Inv-loop μ-loop
-score-requires c κs = 
+score-requires c κs =
     let start = c .before .before .before .before .before .before in
     let row = c .score-row .ensures .1 in
     (omega (arith, row .long, start .pre .0 .1), row .entry (start .args .column) (start .pre .0 .1) .real)
@@ -84,7 +84,7 @@ loop-less : tie.Need-loop-less Inv-loop μ-loop
 loop-less c = omega arith
 
 loop-again : tie.Need-loop-again Inv-loop μ-loop
-loop-again c = 
+loop-again c =
     let start = c .before .before .before .before .before .before .before .before in
     scoring-more (c .before .before .before .before .before .loop .inv) (c .before .before .before .before .loop-test .taken) (start .pre .1 .0)
     (c .before .score .ensures .is ∙ c .before .before .score-row .ensures .1 .entry (start .args .column) (start .pre .0 .1) .is)
