@@ -4,3 +4,4 @@ pub mod Filling
 pub mod Bridge
 pub mod Chosen
 pub mod AllRows
+pub mod Restored

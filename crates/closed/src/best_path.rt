@@ -58,3 +58,26 @@ pub fn fill_rows(
         );
     }
 }
+
+// The path chosen, "the one that the cell rule keeps" (document 01), or that there is none. The work areas end as they came.
+pub fn best_path(
+    best: &mut [f64],
+    back: &mut [u32],
+    bytes: &[u8],
+    at: Layout,
+    costs: Costs,
+    t: StageTables,
+    strictness: Strictness,
+    candidate: usize,
+) -> Path
+    requires { ⌜ Candidate (now bytes) at costs candidate ⌝ }
+    requires { ⌜ Readable t (scoreRows (phraseOf (now bytes))) × SomeProblem (phraseOf (now bytes)) (columnsOf (now bytes) candidate) strictness t ⌝ }
+    requires { ⌜ Unused (now best) (now back) (cellsFor t (columnsOf (now bytes) candidate)) ⌝ }
+    ensures { λ r. ⌜ ((q : Problem) → Agrees (phraseOf (now (bytes .entry))) (columnsOf (now (bytes .entry)) candidate) strictness t q → Reports q (length (columnsOf (now (bytes .entry)) candidate)) r) ⌝ }
+    ensures { λ _. ⌜ (now (best .exit) ≡ now (best .entry)) × (now (back .exit) ≡ now (back .entry)) ⌝ }
+{
+    let k = units(bytes, at, candidate);
+    fill_rows(best, back, bytes, at, costs, t, strictness, candidate, k);
+    let n = t.size;
+    finish(best, back, &t.stop, n, k)
+}
