@@ -5,3 +5,5 @@ pub mod Bridge
 pub mod Chosen
 pub mod AllRows
 pub mod Restored
+pub mod Staged
+pub mod Answers

@@ -3,3 +3,4 @@ pub mod Filled
 pub mod Searched
 pub mod Reported
 pub mod Asked
+pub mod Answered
