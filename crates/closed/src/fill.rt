@@ -11,7 +11,13 @@ use rows::starts::fill_starts;
 use rows::units::fill_units;
 
 // The row of no units.
-pub fn fill_first(best: &mut [f64], back: &mut [u32], start: &[f64], gap: &[f64], n: usize)
+pub fn fill_first<'a>(
+    best: &mut [f64],
+    back: &mut [u32],
+    start: &'a [f64],
+    gap: &'a [f64],
+    n: usize,
+)
     requires { ⌜ (n ≤ length (now best)) × (n ≤ length (now back)) × (n ≤ length (now start)) × (n ≤ length (now gap)) ⌝ }
     requires { ⌜ Row (now best) (now back) first n unfilled ⌝ }
     ensures { λ _. ⌜ FilledFirst (now (start .entry)) (now (gap .entry)) (now (best .entry)) (now (back .entry)) (now (best .exit)) (now (back .exit)) n ⌝ }

@@ -1,0 +1,97 @@
+-- The rows up to each count, filled one after the other. Assumes nothing.
+use mathlib.Core.List.{List}
+use mathlib.Core.Path.{_≡_, refl, sym, ap, subst, _∙_}
+use Prim.Native.Nat.{ℕ, zero, suc, _+_, _*_, _≤_, _<_}
+use native.Mathlib.Nat.{mul-le-mul-right}
+use native.Mathlib.Omega.{arith}
+use lib.Ieee.{Float}
+use lib.ListN.{length, getD}
+use Rattle.phrase.specs.Phrase.{Phrase}
+use Rattle.paths.specs.declared.passes.Strictness.{Strictness}
+use Rattle.paths.specs.Problem.{Problem}
+use Rattle.paths.specs.Cell.{Cell, empty}
+use Rattle.paths.specs.CellRule.{rows, sweep}
+use Rattle.paths.specs.Marks.{Marked, marks}
+use Rattle.stages.specs.declared.tables.StageTables.{StageTables}
+use Rattle.rows.specs.Rows.{Row, HoldsAt, Same}
+use Rattle.rows.specs.Units.{arrivals}
+use Rattle.rows.proofs.Cells.{by-order, same-refl, same-trans, same-holds}
+use Rattle.closed.specs.Filled.{rowAt, FilledFirst, FilledNext, NextRow}
+use Rattle.closed.specs.Searched.{ScoresOf, unitsWith, Agrees}
+use Rattle.closed.specs.Reported.{AllRows}
+use Rattle.closed.specs.Asked.{cellsFor, Unused}
+
+-- a row fits below a later one
+rows-fit : (n : ℕ) {s r : ℕ} → s < r → s * n + n ≤ r * n
+rows-fit n {s} {r} h = omega (arith, mul-le-mul-right n h)
+
+module _ (phrase : Phrase) (columns : List ℕ) (strictness : Strictness) (t : StageTables) where
+  -- rows up to that of s units are filled, the later ones unused, and all beyond as it was
+  pub record RowsTo (best₀ : List Float) (back₀ : List ℕ) (best : List Float) (back : List ℕ) (s : ℕ) : Type 0 where
+    pub bounded : s ≤ length columns
+    pub valued : length best ≡ length best₀
+    pub marked : length back ≡ length back₀
+    pub filled : (q : Problem) → Agrees phrase columns strictness t q → AllRows q best back (t .size) s
+    pub unused : (at : ℕ) → suc s * t .size ≤ at → at < cellsFor t columns → HoldsAt best back at empty
+    pub rest : (at : ℕ) → cellsFor t columns ≤ at → Same best₀ back₀ best back at
+
+  pub rows-begin :
+      {best : List Float} {back : List ℕ} {best′ : List Float} {back′ : List ℕ} → Unused best back (cellsFor t columns) →
+      FilledFirst (t .start) (t .gap) best back best′ back′ (t .size) → (q : Problem) → Agrees phrase columns strictness t q →
+      RowsTo best′ back′ best′ back′ 0
+  rows-begin {best} {back} {best′} {back′} clear first q₀ agrees₀ = record {
+    bounded = omega arith;
+    valued = refl;
+    marked = refl;
+    filled = λ q agrees s h j l.
+        subst (λ (r : ℕ). HoldsAt best′ back′ (rowAt (t .size) r j) (rows q (marks q) r j)) (zero-is s h)
+        (subst (λ (at : ℕ). HoldsAt best′ back′ at (rows q (marks q) 0 j)) (place-is j) (first q (agrees .starts) (agrees .gaps) .row j l));
+    unused = λ at h l. same-holds (first q₀ (agrees₀ .starts) (agrees₀ .gaps) .rest at (omega arith)) (clear .zero at l);
+    rest = λ at h. same-refl best′ back′ at;
+  }
+    where
+      zero-is : (s : ℕ) → s ≤ 0 → 0 ≡ s
+      zero-is s h = omega arith
+
+      place-is : (j : ℕ) → j ≡ 0 * t .size + j
+      place-is j = omega arith
+
+  -- beyond the cells that are used, what the first row left as it was
+  pub first-rest :
+      {best : List Float} {back : List ℕ} {best′ : List Float} {back′ : List ℕ} →
+      FilledFirst (t .start) (t .gap) best back best′ back′ (t .size) → (q : Problem) → Agrees phrase columns strictness t q →
+      (at : ℕ) → cellsFor t columns ≤ at → Same best back best′ back′ at
+  first-rest first q agrees at h = first q (agrees .starts) (agrees .gaps) .rest at (omega arith)
+
+  module _ {best₀ : List Float} {back₀ : List ℕ} {best : List Float} {back : List ℕ} {s : ℕ} (was : RowsTo best₀ back₀ best back s) (more : s < length columns) where
+    pub next-fits : s * t .size + t .size + t .size ≤ cellsFor t columns
+    next-fits = omega (arith, rows-fit (t .size) more)
+
+    module _ {best′ : List Float} {back′ : List ℕ} (b : length best′ ≡ length best) (m : length back′ ≡ length back) (scores : List Float)
+        (given : ScoresOf phrase (t .row) (t .size) (getD columns s 0) scores)
+        (next : FilledNext (unitsWith t scores (phrase .costs .«unvoiced») strictness) (t .gap) best back best′ back′ (t .size) s) where
+      reached : (q : Problem) → Agrees phrase columns strictness t q → NextRow best back best′ back′ (t .size) s (rows q (marks q) (suc s))
+      unfolding rows
+      reached q agrees = next q (agrees .gaps) (agrees .units s more scores given) (rows q (marks q) s) (was .filled q agrees s (omega arith))
+
+      pub rows-more : (q : Problem) → Agrees phrase columns strictness t q → RowsTo best₀ back₀ best′ back′ (s + 1)
+      rows-more q₀ agrees₀ = record {
+        bounded = omega arith;
+        valued = b ∙ was .valued;
+        marked = m ∙ was .marked;
+        filled = λ q agrees r h j l. by-order r (suc s)
+            (λ below. same-holds (reached q agrees .before (rowAt (t .size) r j) (in-row r j below l)) (was .filled q agrees r (omega arith) j l))
+            (λ above. subst (λ (x : ℕ). HoldsAt best′ back′ (rowAt (t .size) x j) (rows q (marks q) x j)) (last-is r above h)
+            (subst (λ (at : ℕ). HoldsAt best′ back′ at (rows q (marks q) (suc s) j)) (place-is j) (reached q agrees .row j l)));
+        unused = λ at h l. same-holds (reached q₀ agrees₀ .after at (omega (arith, h))) (was .unused at (omega (arith, h)) l);
+        rest = λ at h. same-trans (was .rest at h) (reached q₀ agrees₀ .after at (omega (arith, next-fits)));
+      }
+        where
+          last-is : (r : ℕ) → suc s ≤ r → r ≤ s + 1 → suc s ≡ r
+          last-is r above h = omega arith
+
+          place-is : (j : ℕ) → s * t .size + (t .size + j) ≡ suc s * t .size + j
+          place-is j = omega arith
+
+          in-row : (r j : ℕ) → r < suc s → j < t .size → rowAt (t .size) r j < s * t .size + t .size
+          in-row r j below l = omega (arith, rows-fit (t .size) below)

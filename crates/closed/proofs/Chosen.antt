@@ -1,0 +1,119 @@
+-- Filled rows hold the path chosen: the end over the last row is its end, and the marks lead back to its units. Assumes nothing.
+use mathlib.Core.Bool.{Bool, true, false, cond}
+use mathlib.Core.List.{List, []}
+use mathlib.Core.Path.{_≡_, refl, sym, ap, subst, _∙_}
+use Prim.Native.Nat.{ℕ, zero, suc, _+_, _*_, _≤_, _<_}
+use native.Mathlib.Nat.{le-refl}
+use native.Mathlib.Omega.{arith}
+use lib.Ieee.{Float, lt}
+use lib.ListN.{getD}
+use Rattle.paths.specs.Problem.{Problem}
+use Rattle.paths.specs.Path.{Path as Route, begin, gap, unit, end as endOf, sum}
+use Rattle.paths.specs.Cell.{Cell, empty, held, keep, best as bestOf, carry}
+use Rattle.paths.specs.CellRule.{rows, paths, chosenPath}
+use Rattle.paths.specs.Marks.{Marked, marks, markAt, End as Ended, ended, unitsOf, Traces}
+use Rattle.paths.proofs.Marks.{Kept, kept-begin, kept-gap, kept-unit, rows-kept, end-chosen, marks-trace}
+use Rattle.rows.specs.declared.end.End.{End}
+use Rattle.rows.specs.declared.end.End.the-variants.{At, Nowhere}
+use Rattle.rows.specs.Rows.{Holds, unreached, reached}
+use Rattle.rows.specs.Ends.{endCell, StopsOf, EndOf}
+use Rattle.rows.specs.Traced.{markIn, UnitsAre}
+use Rattle.closed.specs.declared.path.Found.the-variants.{Sum, NoPath}
+use Rattle.closed.specs.declared.path.Path.{Path}
+use Rattle.closed.specs.Reported.{sumFound, unitsIn, Reports, Backed, LedBack, AllRows}
+use Rattle.closed.proofs.Parts.{part, part-holds}
+
+-- ---- where the path chosen stands in the last row
+
+record Source {A : Type 0} (m : ℕ) (ways : ℕ → Cell A) (a : A) : Type 0 where
+  place : ℕ
+  below : place < m
+  here : ways place ≡ held a
+
+-- what the rule keeps of some ways is one of them
+source : {A : Type 0} (less : A → A → Bool) (m : ℕ) (ways : ℕ → Cell A) (a : A) → bestOf less m ways ≡ held a → Source m ways a
+unfolding bestOf keep
+source less zero ways a e = absurd (let z : _≡_ {A = ℕ} 0 1 = cc in omega arith)
+source {A} less (suc m) ways a e = go (λ was. source less m ways a was) (bestOf less m ways) refl (ways m) refl e
+  where
+    earlier : Source m ways a → Source (suc m) ways a
+    earlier at = record { place = at .place; below = omega (arith, at .below); here = at .here }
+
+    last : ways m ≡ held a → Source (suc m) ways a
+    last is = record { place = m; below = omega arith; here = is }
+
+    pick :
+        (bestOf less m ways ≡ held a → Source m ways a) →
+        (b : Bool) (x y : A) → bestOf less m ways ≡ held x → ways m ≡ held y → cond b (held y) (held x) ≡ held a → Source (suc m) ways a
+    pick before true x y was is e = last (is ∙ e)
+    pick before false x y was is e = earlier (before (was ∙ e))
+
+    go :
+        (bestOf less m ways ≡ held a → Source m ways a) →
+        (c : Cell A) → bestOf less m ways ≡ c → (d : Cell A) → ways m ≡ d → keep less c d ≡ held a → Source (suc m) ways a
+    go before empty was d is e = last (is ∙ e)
+    go before (held x) was empty is e = earlier (before (was ∙ e))
+    go before (held x) was (held y) is e = pick before (less x y) x y was is e
+
+held-same : {A : Type 0} {a b : A} → held a ≡ held b → a ≡ b
+held-same e = cc
+
+-- a path that the rows hold ends at its boundary
+kept-ends : {q : Problem} (p : Route) {s j : ℕ} → Kept q s j p → endOf p ≡ j
+unfolding endOf
+kept-ends (begin j) kept-begin = refl
+kept-ends {q} (gap p) (kept-gap {s = s} {j = j} e) = ap suc (kept-ends p (rows-kept q s j p e))
+kept-ends (unit p j) (kept-unit l ok e) = refl
+
+holds-mark : {value : Float} {mark : ℕ} {cell : Cell Marked} → Holds value mark cell → mark ≡ markAt cell
+unfolding markAt
+holds-mark unreached = refl
+holds-mark (reached h) = refl
+
+module _ (q : Problem) (k n : ℕ) (stop : List Float) (best : List Float) (back : List ℕ) (stops : StopsOf q stop n) (all : AllRows q best back n k) where
+  -- the marks lead back to the units of the path chosen
+  pub trace-chosen : (p : Route) → chosenPath q k ≡ held p → (endOf p < n) × Traces (markIn back n) k (endOf p) (unitsOf p)
+  unfolding chosenPath
+  trace-chosen p e =
+      let at = source (λ p r. lt (sum q p) (sum q r)) (q .size) (rows q (paths q) k) p e in
+      let is : at .place ≡ endOf p = sym (kept-ends p (rows-kept q k (at .place) p (at .here))) in (
+        omega (arith, at .below, stops .sized, is),
+        subst (λ (j : ℕ). Traces (markIn back n) k j (unitsOf p)) is
+            (marks-trace q k (markIn back n) (λ s j h l. holds-mark (all s h j (omega (arith, stops .sized)))) k (at .place) p (le-refl k) (at .below) (at .here)),
+      )
+
+  -- the end over the last row is that of the path chosen
+  pub end-is : (end : End) → EndOf q (part (k * n) best) (part (k * n) back) n end → endCell end ≡ carry (ended q) (chosenPath q k)
+  end-is end of = of (rows q (marks q) k) (λ j h. part-holds best back (k * n) j (all k (le-refl k) j h)) ∙ end-chosen q k
+
+  pub backed-is : (end : End) → endCell end ≡ carry (ended q) (chosenPath q k) → Backed back n k end
+  unfolding carry
+  backed-is (At total boundary) e = go (chosenPath q k) refl e
+    where
+      go : (c : Cell Route) → chosenPath q k ≡ c → held (record { sum = total; at = boundary }) ≡ carry (ended q) c → Backed back n k (At total boundary)
+      go empty chosen e = absurd (let z : _≡_ {A = ℕ} 0 1 = cc in omega arith)
+      go (held p) chosen e =
+          let traced = trace-chosen p chosen in
+          let is : endOf p ≡ boundary = sym (ap (λ (x : Ended). x .at) (held-same e)) in
+          (subst (λ (j : ℕ). j < n) is (traced .0), (unitsOf p, subst (λ (j : ℕ). Traces (markIn back n) k j (unitsOf p)) is (traced .1)))
+  backed-is Nowhere e = tt
+
+  pub reports-chosen : (end : End) (path : Path) → endCell end ≡ carry (ended q) (chosenPath q k) → LedBack back n k end path → Reports q k path
+  unfolding carry
+  reports-chosen (At total boundary) path e led = go (chosenPath q k) refl e
+    where
+      go : (c : Cell Route) → chosenPath q k ≡ c → held (record { sum = total; at = boundary }) ≡ carry (ended q) c → Reports q k path
+      go empty chosen e = absurd (let z : _≡_ {A = ℕ} 0 1 = cc in omega arith)
+      go (held p) chosen e =
+          let same : record { sum = total; at = boundary } ≡ ended q p = held-same e in
+          let is : endOf p ≡ boundary = sym (ap (λ (x : Ended). x .at) same) in
+          let summed : total ≡ sum q p = ap (λ (x : Ended). x .sum) same in
+          record {
+            found = rw chosen (ap sumFound (led .0) ∙ ap held summed);
+            units = rw chosen (led .1 (unitsOf p) (subst (λ (j : ℕ). Traces (markIn back n) k j (unitsOf p)) is (trace-chosen p chosen .1)));
+          }
+  reports-chosen Nowhere path e led = go (chosenPath q k) refl e
+    where
+      go : (c : Cell Route) → chosenPath q k ≡ c → empty ≡ carry (ended q) c → Reports q k path
+      go empty chosen e = record { found = rw chosen (ap sumFound (led .0)); units = rw chosen (led .1) }
+      go (held p) chosen e = absurd (let z : _≡_ {A = ℕ} 0 1 = cc in omega arith)

@@ -1,0 +1,200 @@
+-- `closed::best_path::fill_rows` meets its contract: proofs/AllRows.antt has the rows. Assumes nothing.
+use mathlib.Core.Bool.{not}
+use mathlib.Core.List.{List, []}
+use mathlib.Core.Path.{_≡_, refl, sym, ap, subst, subst⁻¹, _∙_}
+use Prim.Native.Nat.{ℕ, suc, _+_, _-_, _*_, _≤_, _<_}
+use native.Mathlib.Nat.{le-refl}
+use native.Mathlib.Omega.{arith}
+use lib.Dec.{T}
+use lib.Ieee.{isNan}
+use lib.ListN.{length, getD}
+use borrow.Author.Needs.{needs}
+use Rattle.phrase.specs.Phrase.{Phrase}
+use Rattle.phrase.specs.declared.costs.Costs.{Costs}
+use Rattle.record.specs.Meaning.{phraseOf}
+use Rattle.record.proofs.Accepted.{fit}
+use Rattle.record.proofs.Reading.{within-real}
+use Rattle.stages.specs.declared.tables.StageTables.{StageTables}
+use Rattle.paths.specs.CellRule.{rows}
+use Rattle.paths.specs.Marks.{marks}
+use Rattle.rows.proofs.Cells.{same-trans}
+use Rattle.closed.specs.Filled.{rowAt, FilledNext}
+use Rattle.closed.specs.Searched.{unitsWith}
+use Rattle.closed.specs.Reported.{AllRows}
+use Rattle.closed.specs.Asked.{columnsOf}
+use Rattle.closed.proofs.AllRows.{RowsTo, rows-begin, first-rest, next-fits, rows-more}
+use Rattle.closed.proofs.best_path.fill_rows.Statement.{statement}
+use Rattle.closed.proofs.best_path.fill_rows.Tie as tie
+
+abbrev Inv-loop : tie.InvT-loop
+Inv-loop best₀ back₀ bytes at strictness candidate k t n unvoiced s₀ best back s =
+    RowsTo (phraseOf bytes) (columnsOf bytes candidate) strictness t best₀ back₀ best back s
+
+abbrev μ-loop : tie.MeasureT-loop
+μ-loop best₀ back₀ bytes at strictness candidate k t n unvoiced s₀ best back s = k - s
+
+-- the tables are arrays
+record Arrays (t : StageTables) : Type 0 where
+  bounds : length (t .bounds) ≡ 64
+  start : length (t .start) ≡ 64
+  gap : length (t .gap) ≡ 64
+  first : length (t .first) ≡ 64
+  second : length (t .second) ≡ 64
+  row : length (t .row) ≡ 64
+  duration : length (t .duration) ≡ 75
+
+arrays : (c : tie.Start Inv-loop μ-loop) → Arrays (c .args .t6)
+arrays c =
+    let owned = c .good .1 .1 .1 .1 .1 .0 in
+    let later = owned .1 .1 .1 .1 in
+    record {
+      bounds = search (needs, owned);
+      start = search (needs, owned);
+      gap = search (needs, owned);
+      first = search (needs, owned);
+      second = search (needs, later);
+      row = search (needs, later);
+      duration = search (needs, later);
+    }
+
+abbrev phrase : tie.Start Inv-loop μ-loop → Phrase
+phrase c = phraseOf (c .args .bytes .now)
+
+abbrev columns : tie.Start Inv-loop μ-loop → List ℕ
+columns c = columnsOf (c .args .bytes .now) (c .args .candidate)
+
+float-to-float-unvoiced : tie.Need-float-to-float-unvoiced Inv-loop μ-loop
+float-to-float-unvoiced c =
+    let start = c .before .before .before .before in
+    let real : T (not (isNan (start .args .costs .unvoiced))) =
+    subst⁻¹ (λ (x : Costs). T (not (isNan (x .unvoiced)))) (start .pre .0 .0 .figures) (within-real (fit (start .pre .0 .0 .laid) .unvoiced)) in
+    search needs
+
+fill-first-requires : tie.Need-fill-first-requires Inv-loop μ-loop
+fill-first-requires c κs =
+    let start = c .before .before .before .before .before .before .before .before .before .before .before in
+    let unused = start .pre .1 .1 in
+    let few = start .pre .1 .0 .0 .few in (
+      (omega (arith, unused .values), omega (arith, unused .marks), omega (arith, arrays start .start), omega (arith, arrays start .gap)),
+      λ j h. unused .zero j (omega arith),
+    )
+
+loop-holds : tie.Need-loop-holds Inv-loop μ-loop
+loop-holds c =
+    let start = c .before .before .before .before .before .before .before .before .before .before .before .before .before .before .before .before in
+    let some = start .pre .1 .0 .1 in
+    rows-begin (phrase start) (columns start) (start .args .strictness) (start .args .t6) (start .pre .1 .1) (c .before .before .before .before .fill-first .ensures) (some .0) (some .1)
+
+column-requires : tie.Need-column-requires Inv-loop μ-loop
+column-requires c κs =
+    let start = c .before .before .before .before .before .before .before .before .before .before .before .before .before .before .before .before .before .before in
+    let asked = start .pre .0 .0 in
+    (asked .laid, (asked .listed, omega (arith, c .loop-test .taken, start .pre .0 .1)))
+
+row-scores-requires : tie.Need-row-scores-requires Inv-loop μ-loop
+row-scores-requires c κs =
+    let start = c .before .before .before .before .before .before .before .before .before .before .before .before .before .before .before .before .before .before .before .before .before .before in
+    let asked = start .pre .0 .0 in
+    let readable = start .pre .1 .0 .0 in
+    let turn : c .before .before .before .before .before .loop .s < length (columns start) = omega (arith, c .before .before .before .before .loop-test .taken, start .pre .0 .1) in (
+      (
+        asked .laid,
+        subst⁻¹ (λ (x : ℕ). x < start .args .at .scores .count) (c .before .before .before .column .ensures)
+            (fit (asked .laid) .candidates (start .args .candidate) (record { id = 0; columns = [] }) (asked .listed) .below (c .before .before .before .before .before .loop .s) turn),
+      ),
+      (readable .few, omega (arith, readable .few, arrays start .row), readable .rows),
+    )
+
+slice-aggregate-fill-next : tie.Need-slice-aggregate-fill-next Inv-loop μ-loop
+slice-aggregate-fill-next c = sym (c .before .before .before .before .before .before .before .before .before .before .before .before .row-scores .ensures .sized)
+
+fill-next-requires : tie.Need-fill-next-requires Inv-loop μ-loop
+fill-next-requires c κs =
+    let start = c .before .before .before .before .before .before .before .before .before .before .before .before .before .before .before .before .before .before .before .before .before .before .before .before .before .before .before .before .before .before .before .before .before .before .before .before .before in
+    let t = start .args .t6 in
+    let readable = start .pre .1 .0 .0 in
+    let some = start .pre .1 .0 .1 in
+    let unused = start .pre .1 .1 in
+    let at = c .before .before .before .before .before .before .before .before .before .before .before .before .before .before .before .before .before .before .before .before .loop in
+    let turn : at .s < length (columns start) = omega (arith, c .before .before .before .before .before .before .before .before .before .before .before .before .before .before .before .before .before .before .before .loop-test .taken, start .pre .0 .1) in
+    let fits = next-fits (phrase start) (columns start) (start .args .strictness) t (at .inv) turn in
+    let began = c .before .before .before .before .before .before .before .before .before .before .before .before .before .before .before .before .before .before .before .before .before .before .before .before .before .fill-first .kept in (
+      (
+        omega (arith, fits, unused .values, at .inv .valued, began .0),
+        omega (arith, fits, unused .marks, at .inv .marked, began .1 .0),
+        omega (arith, readable .few),
+        omega (arith, readable .few, arrays start .gap),
+      ),
+      (
+        record {
+          ascending = readable .ascending;
+          anchors = readable .anchors;
+          bounds-long = omega (arith, readable .few, arrays start .bounds);
+          first-long = omega (arith, readable .few, arrays start .first);
+          second-long = omega (arith, readable .few, arrays start .second);
+          score-long = omega (arith, readable .few, c .before .before .before .before .before .before .before .before .before .before .before .before .before .before .row-scores .ensures .sized);
+          duration-long = omega (arith, arrays start .duration);
+        },
+        (
+          (rows (some .0) (marks (some .0)) (at .s), at .inv .filled (some .0) (some .1) (at .s) (le-refl (at .s))),
+          λ j h. at .inv .unused (rowAt (t .size) (at .s) (t .size + j)) (omega arith) (omega (arith, fits)),
+        ),
+      ),
+    )
+
+add-s : tie.Need-add-s Inv-loop μ-loop
+add-s c = omega (arith, c .before .before .before .before .before .before .before .before .before .before .before .before .before .before .before .before .before .before .before .before .before .before .before .before .loop-test .taken, c .before .before .before .before .before .before .before .before .before .before .before .before .before .before .before .before .before .before .before .before .before .before .before .before .before .before .before .before .before .before .before .before .before .before .before .before .before .before .before .before .before .before .fits .k)
+
+loop-less : tie.Need-loop-less Inv-loop μ-loop
+loop-less c = omega (arith, c .before .before .before .before .before .before .before .before .before .before .before .before .before .before .before .before .before .before .before .before .before .before .before .before .loop-test .taken)
+
+loop-again : tie.Need-loop-again Inv-loop μ-loop
+loop-again c =
+    let start = c .before .before .before .before .before .before .before .before .before .before .before .before .before .before .before .before .before .before .before .before .before .before .before .before .before .before .before .before .before .before .before .before .before .before .before .before .before .before .before .before .before .before in
+    let t = start .args .t6 in
+    let some = start .pre .1 .0 .1 in
+    let at = c .before .before .before .before .before .before .before .before .before .before .before .before .before .before .before .before .before .before .before .before .before .before .before .before .before .loop in
+    let turn : at .s < length (columns start) = omega (arith, c .before .before .before .before .before .before .before .before .before .before .before .before .before .before .before .before .before .before .before .before .before .before .before .before .loop-test .taken, start .pre .0 .1) in
+    let scored = c .before .before .before .before .before .before .before .before .before .before .before .before .before .before .before .before .before .before .before .row-scores in
+    let next = c .before .before .before .before .fill-next in
+    rows-more (phrase start) (columns start) (start .args .strictness) t (at .inv) turn (next .kept .0) (next .kept .1 .0) (scored .result)
+    (λ i h. scored .ensures .given i h ∙ ap (phrase start .score (getD (t .row) i 0)) (c .before .before .before .before .before .before .before .before .before .before .before .before .before .before .before .before .before .before .before .before .before .before .before .column .ensures))
+    (subst (λ (x : Costs). FilledNext (unitsWith t (scored .result) (x .unvoiced) (start .args .strictness)) (t .gap) (at .best) (at .back) (next .last .0) (next .last .1 .0) (t .size) (at .s))
+    (start .pre .0 .0 .figures) (next .ensures)) (some .0) (some .1)
+
+same-length : tie.Need-same-length Inv-loop μ-loop
+same-length c = c .before .loop .inv .valued ∙ c .before .before .before .before .before .before .fill-first .kept .0
+
+same-length-2 : tie.Need-same-length-2 Inv-loop μ-loop
+same-length-2 c = c .before .loop .inv .marked ∙ c .before .before .before .before .before .before .fill-first .kept .1 .0
+
+returns : tie.Need-returns Inv-loop μ-loop
+returns c =
+    let start = c .before .before .before .before .before .before .before .before .before .before .before .before .before .before .before .before .before .before in
+    let some = start .pre .1 .0 .1 in
+    let inv = c .before .loop .inv in
+    let all : c .before .loop .s ≡ length (columns start) = omega (arith, c .loop-test .left, start .pre .0 .1, inv .bounded) in
+    record {
+      rows = λ q agrees. subst (AllRows q (c .before .loop .best) (c .before .loop .back) (start .args .t6 .size)) all (inv .filled q agrees);
+      rest = λ at h. same-trans (first-rest (phrase start) (columns start) (start .args .strictness) (start .args .t6) (c .before .before .before .before .before .before .fill-first .ensures) (some .0) (some .1) at h) (inv .rest at h);
+    }
+
+pub fill-rows-spec : {M : Type 1} → statement M
+fill-rows-spec =
+    tie.close
+    (tie.spec
+    Inv-loop
+    μ-loop
+    float-to-float-unvoiced
+    fill-first-requires
+    loop-holds
+    column-requires
+    row-scores-requires
+    slice-aggregate-fill-next
+    fill-next-requires
+    add-s
+    loop-less
+    loop-again
+    same-length
+    same-length-2
+    returns)

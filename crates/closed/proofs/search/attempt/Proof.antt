@@ -1,0 +1,98 @@
+-- `closed::search::attempt` meets its contract. Assumes nothing.
+use mathlib.Core.List.{List}
+use mathlib.Core.Path.{_≡_, sym, subst⁻¹}
+use Prim.Native.Nat.{ℕ}
+use lib.ListN.{length}
+use Rattle.phrase.specs.Phrase.{Phrase}
+use Rattle.paths.specs.declared.passes.Strictness.{Strictness}
+use Rattle.paths.specs.Problem.{Problem}
+use Rattle.paths.specs.Passes.{passProblem}
+use Rattle.record.specs.Meaning.{phraseOf}
+use Rattle.closed.specs.Searched.{Agrees}
+use Rattle.closed.specs.Asked.{columnsOf}
+use Rattle.closed.proofs.Staged.{pass-readable, pass-cells, pass-agrees}
+use Rattle.closed.proofs.Answers.{says-found, says-none}
+use borrow.Author.Needs.{needs}
+use Rattle.closed.proofs.search.attempt.Statement.{statement}
+use Rattle.closed.proofs.search.attempt.Tie as tie
+
+abbrev phrase : tie.Start → Phrase
+phrase c = phraseOf (c .args .bytes .now)
+
+abbrev columns : tie.Start → List ℕ
+columns c = columnsOf (c .args .bytes .now) (c .args .candidate)
+
+-- the problem of the pass
+abbrev problem : tie.Start → Problem
+problem c = passProblem (phrase c) (c .args .pass) (columns c)
+
+agreed : (c : tie.After-strictness-of) → let start = c .before .before .before .before in
+    Agrees (phrase start) (columns start) (c .strictness-of .result) (start .args .t) (problem start)
+agreed c =
+    let start = c .before .before .before .before in
+    subst⁻¹ (λ (x : Strictness). Agrees (phrase start) (columns start) x (start .args .t) (problem start)) (c .strictness-of .ensures)
+    (pass-agrees (start .pre .0 .0) (start .args .pass) (start .pre .1 .0) (columns start))
+
+strictness-of-requires : tie.Need-strictness-of-requires
+strictness-of-requires c κs = search needs
+
+best-path-requires : tie.Need-best-path-requires
+best-path-requires c κs =
+    let start = c .before .before .before .before .before .before in
+    let a = start .args in
+    let asked = start .pre .0 .0 in (
+      asked,
+      (
+        (pass-readable asked (a .pass) (start .pre .1 .0) (start .pre .0 .1), (problem start, agreed (c .before .before))),
+        pass-cells asked (a .pass) (start .pre .1 .0) (a .best .now) (a .back .now) (start .pre .1 .1),
+      ),
+    )
+
+enum-known-found : tie.Need-enum-known-found
+enum-known-found c = search needs
+
+enum-told : tie.Need-enum-told
+enum-told c = search needs
+
+same-length : tie.Need-same-length
+same-length c = search needs
+
+same-length-2 : tie.Need-same-length-2
+same-length-2 c = search needs
+
+returns : tie.Need-returns
+returns c =
+    let start = c .before .before .before .before .before .before .before .before .before .before .before .before .before .before .before in
+    let path = c .before .before .before .before .before .before .before .before .best-path in (
+      says-found (start .args .pass) (problem start) (length (columns start)) (path .result) (path .ensures .0 (problem start) (agreed (c .before .before .before .before .before .before .before .before .before .before .before))) (c .before .found .given .1),
+      path .ensures .1,
+    )
+
+same-length-3 : tie.Need-same-length-3
+same-length-3 c = search needs
+
+same-length-4 : tie.Need-same-length-4
+same-length-4 c = search needs
+
+returns-2 : tie.Need-returns-2
+returns-2 c =
+    let start = c .before .before .before .before .before .before .before .before .before .before .before .before .before .before in
+    let path = c .before .before .before .before .before .before .before .best-path in (
+      says-none (start .args .pass) (problem start) (length (columns start)) (path .result) (path .ensures .0 (problem start) (agreed (c .before .before .before .before .before .before .before .before .before .before))) (c .enum-told .given .1),
+      path .ensures .1,
+    )
+
+pub attempt-spec : {M : Type 1} → statement M
+attempt-spec =
+    tie.close
+    (tie.spec
+    strictness-of-requires
+    best-path-requires
+    enum-known-found
+    enum-told
+    same-length
+    same-length-2
+    returns
+    same-length-3
+    same-length-4
+    returns-2)

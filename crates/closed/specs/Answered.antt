@@ -1,0 +1,71 @@
+-- What the search through the passes answers for a candidate, as the code's enum says it.
+use Prim.Native.Nat.{ℕ}
+use mathlib.Core.Bool.{Bool, true, false}
+use mathlib.Core.List.{List, []}
+use mathlib.Core.Path.{_≡_}
+use lib.Ieee.{Float}
+use lib.ListN.{length}
+use Rattle.phrase.specs.Phrase.{Phrase, Stage}
+use Rattle.paths.specs.declared.passes.Strictness.{Strictness}
+use Rattle.paths.specs.declared.passes.Strictness.the-variants.{Strict, Relaxed}
+use Rattle.paths.specs.declared.passes.Pass.{Pass}
+use Rattle.paths.specs.declared.passes.Pass.the-variants.{NucleiStrict, CountStrict, CountRelaxed, NucleiRelaxed}
+use Rattle.paths.specs.CellRule.{chosenPath}
+use Rattle.paths.specs.Marks.{unitsOf}
+use Rattle.paths.specs.Passes.{passNumber, passProblem, speaks, hasNucleus, nonEmpty}
+use Rattle.paths.specs.Demand.{found, none, unvoiced, Answer as Demanded}
+use Rattle.paths.specs.Search.{orElse}
+use Rattle.stages.specs.declared.tables.StageTables.{StageTables}
+use Rattle.stages.specs.Tables.{Tabled}
+use Rattle.rows.specs.Traced.{UnitsAre}
+use Rattle.closed.specs.declared.search.Answer.{Answer}
+use Rattle.closed.specs.declared.search.Answer.the-variants.{Found, None, Unvoiced}
+use Rattle.closed.specs.declared.search.Searched.{Searched}
+use Rattle.closed.specs.declared.search.Runs.{Runs}
+
+-- "Pass: 0 nuclei-strict, 1 count-strict, 2 count-relaxed, 3 nuclei-relaxed, 4 none (no path, but a nucleus in the mask),
+-- 5 unvoiced (no path and no nucleus in the mask)."
+abbrev pub numberOf : Answer → ℕ
+numberOf (Found pass total) = passNumber pass
+numberOf None = 4
+numberOf Unvoiced = 5
+
+-- The code's answer and units say what an answer says: its pass and sum, and the units of its path, or no path by the same word.
+abbrev pub Says : Demanded → Searched → Type 0
+Says (found pass path total) r = (r .answer ≡ Found pass total) × UnitsAre (r .units) (unitsOf path)
+Says none r = (r .answer ≡ None) × UnitsAre (r .units) []
+Says unvoiced r = (r .answer ≡ Unvoiced) × UnitsAre (r .units) []
+
+-- whether it has a path
+abbrev pub isFound : Answer → Bool
+isFound (Found pass total) = true
+isFound None = false
+isFound Unvoiced = false
+
+-- what a pass searches, and how
+abbrev pub passStage : Phrase → Pass → Stage
+passStage phrase NucleiStrict = phrase .nuclei
+passStage phrase CountStrict = phrase .added
+passStage phrase CountRelaxed = phrase .added
+passStage phrase NucleiRelaxed = phrase .nuclei
+
+abbrev pub passStrictness : Pass → Strictness
+passStrictness NucleiStrict = Strict
+passStrictness CountStrict = Strict
+passStrictness CountRelaxed = Relaxed
+passStrictness NucleiRelaxed = Relaxed
+
+-- one pass by itself
+abbrev pub passAnswer : Phrase → Pass → List ℕ → Demanded
+passAnswer phrase pass columns = orElse pass (passProblem phrase pass columns) (chosenPath (passProblem phrase pass columns) (length columns)) none
+
+-- which passes a phrase has
+pub record RunsOf (phrase : Phrase) (runs : Runs) : Type 0 where
+  pub spoken : runs .spoken ≡ speaks (phrase .speech)
+  pub voiced : runs .voiced ≡ hasNucleus phrase
+  pub added : runs .added ≡ nonEmpty (phrase .added .anchors)
+
+-- The tables of the nuclei's stage and, where there is one, of the added stage.
+pub record BothTabled (phrase : Phrase) (first second : StageTables) : Type 0 where
+  pub nuclei : Tabled phrase (phrase .nuclei) first
+  pub added : nonEmpty (phrase .added .anchors) ≡ true → Tabled phrase (phrase .added) second

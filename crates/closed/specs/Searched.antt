@@ -1,0 +1,51 @@
+-- The problem that the tables of a stage and a candidate's scores give, as the search reads it.
+use Prim.Native.Nat.{ℕ, _+_, _≤_, _<_}
+use mathlib.Core.List.{List}
+use mathlib.Core.Path.{_≡_}
+use lib.Ieee.{Float, binary64, nan, ofBits}
+use lib.ListN.{length, getD}
+use Rattle.phrase.specs.Phrase.{Phrase}
+use Rattle.paths.specs.declared.passes.Strictness.{Strictness}
+use Rattle.paths.specs.Problem.{Problem}
+use Rattle.stages.specs.declared.tables.StageTables.{StageTables}
+use Rattle.rows.specs.Rows.{GapsOf}
+use Rattle.rows.specs.Units.{UnitTables, unitTables, UnitsOf}
+use Rattle.rows.specs.Ends.{StopsOf}
+use Rattle.closed.specs.Filled.{StartsOf}
+
+-- the scores of a column in the rows listed
+abbrev pub ScoresOf : Phrase → List ℕ → ℕ → ℕ → List Float → Type 0
+ScoresOf phrase rows n column scores = (i : ℕ) → i < n → getD scores i nan ≡ phrase .score (getD rows i 0) column
+
+-- how many rows of scores a phrase has
+abbrev pub scoreRows : Phrase → ℕ
+scoreRows phrase = length (phrase .nuclei .anchors) + length (phrase .added .anchors)
+
+abbrev pub RowsBelow : List ℕ → ℕ → ℕ → Type 0
+RowsBelow rows n most = (i : ℕ) → i < n → getD rows i 0 < most
+
+-- an array of them, 0 past the last
+pub record Scored (phrase : Phrase) (rows : List ℕ) (n column : ℕ) (scores : List Float) : Type 0 where
+  pub sized : length scores ≡ 64
+  pub given : ScoresOf phrase rows n column scores
+  pub rest : (i : ℕ) → n ≤ i → i < 64 → getD scores i nan ≡ ofBits binary64 0
+
+-- the tables of one unit, with its scores
+abbrev pub unitsWith : StageTables → List Float → Float → Strictness → UnitTables
+unitsWith t scores unvoiced strictness = unitTables (t .bounds) (t .first) (t .second) scores (t .duration) unvoiced strictness
+
+-- A problem whose figures are those of the tables and, for each of the candidate's columns, the phrase's scores.
+pub record Agrees (phrase : Phrase) (columns : List ℕ) (strictness : Strictness) (t : StageTables) (q : Problem) : Type 0 where
+  pub starts : StartsOf q (t .start) (t .size)
+  pub gaps : GapsOf q (t .gap) (t .size)
+  pub stops : StopsOf q (t .stop) (t .size)
+  pub units :
+      (s : ℕ) → s < length columns → (scores : List Float) → ScoresOf phrase (t .row) (t .size) (getD columns s 0) scores →
+      UnitsOf q s (unitsWith t scores (phrase .costs .«unvoiced») strictness) (t .size)
+
+-- What may be read of the tables: frames ascend, and so do the two anchors ahead; rows are rows of scores.
+pub record Readable (t : StageTables) (scoreRows : ℕ) : Type 0 where
+  pub few : t .size ≤ 64
+  pub ascending : (i j : ℕ) → i ≤ j → j < t .size → getD (t .bounds) i 0 ≤ getD (t .bounds) j 0
+  pub anchors : (i : ℕ) → i < t .size → getD (t .first) i 0 ≤ getD (t .second) i 0
+  pub rows : RowsBelow (t .row) (t .size) scoreRows

@@ -1,0 +1,106 @@
+// The search through the passes, after `search` of closed.rs.
+
+ghost use mathlib.Core.Bool.{true};
+ghost use mathlib.Core.Path.{_≡_};
+ghost use Rattle.paths.specs.Passes.{hasNucleus};
+ghost use Rattle.paths.specs.Search.{chosen};
+ghost use Rattle.record.specs.Edition.{edition1};
+ghost use Rattle.record.specs.Meaning.{phraseOf};
+ghost use Rattle.stages.specs.Tables.{Tabled};
+ghost use Rattle.closed.specs.Answered.{Says, isFound, numberOf, passStage, passStrictness, passAnswer, RunsOf, BothTabled};
+ghost use Rattle.closed.specs.Asked.{Candidate, columnsOf, Unused};
+use crate::best_path::best_path;
+use crate::path::Found;
+use paths::passes::Pass;
+use paths::passes::Strictness;
+use phrase::costs::Costs;
+use record::layout::Layout;
+use rows::trace::Units;
+use stages::tables::StageTables;
+
+// The pass that finds a path, with its sum; or that there is none, and whether a nucleus is in the mask.
+pub enum Answer {
+    Found(Pass, f64),
+    None,
+    Unvoiced,
+}
+
+// The answer, and the boundaries of the path's units in the stage of its pass.
+pub struct Searched {
+    pub answer: Answer,
+    pub units: Units,
+}
+
+// What decides which passes there are: speech by the edges, a nucleus in the mask, an added stage.
+pub struct Runs {
+    pub spoken: bool,
+    pub voiced: bool,
+    pub added: bool,
+}
+
+impl Answer {
+    // The number of a result entry's pass word.
+    pub fn number(self) -> u32
+        ensures { λ r. ⌜ r ≡ numberOf self ⌝ }
+    {
+        match self {
+            Answer::Found(pass, _) => pass.number(),
+            Answer::None => 4,
+            Answer::Unvoiced => 5,
+        }
+    }
+
+    pub fn is_found(self) -> bool
+        ensures { λ r. ⌜ r ≡ isFound self ⌝ }
+    {
+        match self {
+            Answer::Found(_, _) => true,
+            Answer::None => false,
+            Answer::Unvoiced => false,
+        }
+    }
+}
+
+fn strictness_of(pass: Pass) -> Strictness
+    ensures { λ r. ⌜ r ≡ passStrictness pass ⌝ }
+{
+    match pass {
+        Pass::NucleiStrict => Strictness::Strict,
+        Pass::CountStrict => Strictness::Strict,
+        Pass::CountRelaxed => Strictness::Relaxed,
+        Pass::NucleiRelaxed => Strictness::Relaxed,
+    }
+}
+
+// One pass, over the tables of its stage.
+pub fn attempt(
+    best: &mut [f64],
+    back: &mut [u32],
+    bytes: &[u8],
+    at: Layout,
+    costs: Costs,
+    t: StageTables,
+    pass: Pass,
+    candidate: usize,
+) -> Searched
+    requires { ⌜ Candidate (now bytes) at costs candidate × (hasNucleus (phraseOf (now bytes)) ≡ true) ⌝ }
+    requires { ⌜ Tabled (phraseOf (now bytes)) (passStage (phraseOf (now bytes)) pass) t ⌝ }
+    requires { ⌜ Unused (now best) (now back) (edition1 .«work_cells») ⌝ }
+    ensures { λ r. ⌜ Says (passAnswer (phraseOf (now (bytes .entry))) pass (columnsOf (now (bytes .entry)) candidate)) r ⌝ }
+    ensures { λ _. ⌜ (now (best .exit) ≡ now (best .entry)) × (now (back .exit) ≡ now (back .entry)) ⌝ }
+{
+    let strictness = strictness_of(pass);
+    let path = best_path(best, back, bytes, at, costs, t, strictness, candidate);
+    let found = path.found;
+    let units = path.units;
+    match found {
+        Found::Sum(sum) => {
+            let answer = Answer::Found(pass, sum);
+            Searched { answer, units }
+        }
+        Found::NoPath => {
+            let answer = Answer::None;
+            Searched { answer, units }
+        }
+    }
+}
