@@ -7,3 +7,4 @@ pub mod AllRows
 pub mod Restored
 pub mod Staged
 pub mod Answers
+pub mod InOrder

@@ -1,12 +1,14 @@
 // The search through the passes, after `search` of closed.rs.
 
 ghost use mathlib.Core.Bool.{true};
+ghost use mathlib.Core.List.{[]};
 ghost use mathlib.Core.Path.{_≡_};
 ghost use Rattle.paths.specs.Passes.{hasNucleus};
 ghost use Rattle.paths.specs.Search.{chosen};
 ghost use Rattle.record.specs.Edition.{edition1};
 ghost use Rattle.record.specs.Meaning.{phraseOf};
 ghost use Rattle.stages.specs.Tables.{Tabled};
+ghost use Rattle.rows.specs.Traced.{UnitsAre};
 ghost use Rattle.closed.specs.Answered.{Says, isFound, numberOf, passStage, passStrictness, passAnswer, RunsOf, BothTabled};
 ghost use Rattle.closed.specs.Asked.{Candidate, columnsOf, Unused};
 use crate::best_path::best_path;
@@ -103,4 +105,91 @@ pub fn attempt(
             Searched { answer, units }
         }
     }
+}
+
+// The answer without a path.
+pub fn no_path(answer: Answer) -> Searched
+    ensures { λ r. ⌜ (r .answer ≡ answer) × UnitsAre (r .units) [] ⌝ }
+{
+    let units = Units {
+        first: [0u32; 16],
+        last: [0u32; 16],
+    };
+    Searched { answer, units }
+}
+
+// The first pass that admits a path, in document 01's order, with the path chosen there; or that there is none. The tables
+// of the added stage are read only where there is one. The work areas end as they came.
+pub fn search(
+    best: &mut [f64],
+    back: &mut [u32],
+    bytes: &[u8],
+    at: Layout,
+    costs: Costs,
+    nuclei: StageTables,
+    added: StageTables,
+    runs: Runs,
+    candidate: usize,
+) -> Searched
+    requires { ⌜ Candidate (now bytes) at costs candidate × RunsOf (phraseOf (now bytes)) runs × BothTabled (phraseOf (now bytes)) nuclei added ⌝ }
+    requires { ⌜ Unused (now best) (now back) (edition1 .«work_cells») ⌝ }
+    ensures { λ r. ⌜ Says (chosen (phraseOf (now (bytes .entry))) (columnsOf (now (bytes .entry)) candidate)) r ⌝ }
+    ensures { λ _. ⌜ (now (best .exit) ≡ now (best .entry)) × (now (back .exit) ≡ now (back .entry)) ⌝ }
+{
+    if !runs.voiced {
+        return no_path(Answer::Unvoiced);
+    }
+    if !runs.spoken {
+        return no_path(Answer::None);
+    }
+    let first = attempt(
+        best,
+        back,
+        bytes,
+        at,
+        costs,
+        nuclei,
+        Pass::NucleiStrict,
+        candidate,
+    );
+    let answer = first.answer;
+    if answer.is_found() {
+        return first;
+    }
+    if !runs.added {
+        return attempt(
+            best,
+            back,
+            bytes,
+            at,
+            costs,
+            nuclei,
+            Pass::NucleiRelaxed,
+            candidate,
+        );
+    }
+    let second = attempt(
+        best,
+        back,
+        bytes,
+        at,
+        costs,
+        added,
+        Pass::CountStrict,
+        candidate,
+    );
+    let answer = second.answer;
+    if answer.is_found() {
+        return second;
+    }
+    attempt(
+        best,
+        back,
+        bytes,
+        at,
+        costs,
+        added,
+        Pass::CountRelaxed,
+        candidate,
+    )
 }
