@@ -1,10 +1,8 @@
 -- Where the rows' spans run in order from a frame on, the reported ones do too.
 use Prim.Native.Nat.{ℕ, _≤_, max}
-use mathlib.Core.Path.{_≡_}
 use mathlib.Core.List.{List, [], _∷_}
 use native.Mathlib.Omega.{arith}
-use Rattle.clip.specs.declared.clip.Span.{Span}
-use Rattle.clip.specs.Clip.{Placed, anchored, unanchored, nextStart, clipped, report, reportAfter, firstStart, reported}
+use Rattle.clip.specs.Clip.{Placed, anchored, unanchored, nextStart, clipped, reportAfter, firstStart, reported}
 use Rattle.clip.specs.Order.{InOrder, RowsInOrder}
 
 -- The rows after a gap are in order from any frame of the gap on.

@@ -1,5 +1,5 @@
 -- Reporting one unit after another.
-use Prim.Native.Nat.{ℕ, zero, suc, _+_, _-_, _≤_, _<_, min, max}
+use Prim.Native.Nat.{ℕ, zero, suc, _+_, _-_, _≤_, _<_, max}
 use mathlib.Core.Path.{_≡_, refl, sym, ap, ap₂, _∙_}
 use mathlib.Core.Bool.{Bool, true, false, cond}
 use mathlib.Core.List.{List, [], _∷_, _++_, map, append-nil, append-assoc}
@@ -10,8 +10,8 @@ use lib.Dec.{eqb}
 use lib.ListN.{length, getD, take, set}
 use lib.Seq.{take-suc-set, take-all}
 use Rattle.clip.specs.declared.clip.Span.{Span}
-use Rattle.clip.specs.Clip.{Placed, anchored, unanchored, nearest, clipped, report, reportAfter, given, reported}
-use Rattle.clip.specs.Units.{noRow, unitAt, unitsFrom, reportAt}
+use Rattle.clip.specs.Clip.{Placed, anchored, unanchored, nearest, clipped, reportAfter, given, reported}
+use Rattle.clip.specs.Units.{noRow, unitsFrom, reportAt}
 use Rattle.clip.proofs.Units.{units-next, units-end, units-past}
 
 pub clip-is : (path : Span) (low next high start end : ℕ) → high ≡ max next low → start ≡ nearest low high (path .start) → end ≡ nearest start high (path .end)

@@ -1,16 +1,15 @@
 -- The units of arrays, one at a time.
 use Prim.Native.Nat.{ℕ, zero, suc, _+_, _-_, _≤_, _<_}
-use mathlib.Core.Path.{_≡_, refl, sym, ap, ap₂, _∙_}
+use mathlib.Core.Path.{_≡_, refl, ap, ap₂}
 use mathlib.Core.Logic.{_≢_}
 use mathlib.Core.Bool.{Bool, cond}
 use mathlib.Core.List.{List, [], _∷_}
 use native.Mathlib.Omega.{arith}
 use lib.Dec.{eqb}
-use lib.ListN.{length, getD, set}
+use lib.ListN.{getD, set}
 use lib.Seq.{getD-set-other}
 use borrow.Author.Tests.{eq-eqb, ne-eqb}
-use Rattle.clip.specs.declared.clip.Span.{Span}
-use Rattle.clip.specs.Clip.{Placed, anchored, unanchored}
+use Rattle.clip.specs.Clip.{anchored, unanchored}
 use Rattle.clip.specs.Units.{noRow, unitAt, unitsFrom}
 
 module _ (starts ends rows : List ℕ) where

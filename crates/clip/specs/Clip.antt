@@ -10,6 +10,11 @@ pub data Placed : Type 0 where
   anchored : Span → Placed
   unanchored : Span → Placed
 
+-- the span that a unit comes with
+abbrev pub given : Placed → Span
+given (anchored row) = row
+given (unanchored path) = path
+
 -- the start of the next anchored unit's span, or another frame where there is none
 unfoldable pub nextStart : ℕ → List Placed → ℕ
 nextStart otherwise [] = otherwise
@@ -38,10 +43,6 @@ unfoldable pub reportAfter : ℕ → List Placed → List Span
 unfolding report
 reportAfter low [] = []
 reportAfter low (unit ∷ later) = report low unit later ∷ reportAfter (report low unit later .end) later
-
-abbrev pub given : Placed → Span
-given (anchored row) = row
-given (unanchored path) = path
 
 abbrev pub firstStart : List Placed → ℕ
 firstStart [] = 0

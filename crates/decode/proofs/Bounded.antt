@@ -1,34 +1,25 @@
 -- An accepted record's phrase keeps to document 01's bounds, whatever scores and costs it lends.
 use Prim.Native.Nat.{ℕ, zero, suc, _+_, _≤_, _<_}
-use mathlib.Core.Bool.{Bool, true, false}
 use mathlib.Core.List.{List, [], _∷_}
-use mathlib.Core.Option.{Option, none, some, Option·some-ne-none}
-use mathlib.Core.Path.{_≡_, refl, sym, ap, subst, _∙_}
-use native.Mathlib.Nat.{le-of-suc-le-suc}
+use mathlib.Core.Option.{none}
+use mathlib.Core.Path.{_≡_, refl, sym}
 use native.Mathlib.Omega.{arith}
 use lib.Dec.{T}
 use lib.ListN.{length, getD}
+use lib.Ieee.{binary64}
+use Rattle.ieee.specs.Value.{Within}
 use Rattle.ieee.proofs.Magnitude.{within-widens}
-use Rattle.phrase.specs.Phrase.{Phrase, Stage, Candidate}
+use Rattle.phrase.specs.Phrase.{Stage, Candidate}
+use Rattle.paths.specs.Units.{shortestUnit, longestUnit}
 use Rattle.paths.specs.Passes.{nonEmpty}
 use Rattle.paths.specs.Bounded.{Bounded, PhraseBounded, documentRanges}
 use Rattle.record.specs.Edition.{edition1}
 use Rattle.record.specs.Layout.{layoutOf}
-use Rattle.record.specs.Refusals.{refusalOf, refusalWith}
+use Rattle.record.specs.Refusals.{refusalOf}
 use Rattle.record.specs.Meaning.{phraseAt, phraseOf}
-use Rattle.record.specs.Accepted.{Laid, StageFit, CandidateFit, Fit}
-use Rattle.record.specs.declared.refusal.Refusal.{Refusal}
+use Rattle.record.specs.Accepted.{CandidateFit, Fit}
 use Rattle.record.proofs.Below.{length-listed}
 use Rattle.record.proofs.Accepted.{fit}
-use Rattle.record.proofs.Answers.{refused-first}
-
--- a record that is accepted with lent buffers is one that no rule of its own refuses
-pub own-rules : (bytes : List ℕ) (best back out : ℕ) → refusalWith bytes best back out ≡ none → refusalOf bytes ≡ none
-own-rules bytes best back out accepted = go (refusalOf bytes) refl
-  where
-    go : (o : Option Refusal) → refusalOf bytes ≡ o → refusalOf bytes ≡ none
-    go none e = e
-    go (some q) e = absurd (Option·some-ne-none q (sym (refused-first bytes best back out q e) ∙ accepted))
 
 some-anchor : (frames : List ℕ) → T (nonEmpty frames) → 0 < length frames
 some-anchor (frame ∷ frames) t = omega arith
@@ -60,30 +51,29 @@ module _ (bytes : List ℕ) (accepted : refusalOf bytes ≡ none) where
     column : (unit : ℕ) → getD (c .columns) unit 0 < layoutOf bytes .scores .count
     column = column-below c (phrase-fit .someColumn) fits
 
+    stage-bounded : (stage : Stage) → length (stage .boundaries) ≤ edition1 .boundaries
+        → stage .firstRow + length (stage .anchors) ≤ length (phraseOf bytes .nuclei .anchors) + length (phraseOf bytes .added .anchors)
+        → ((frames : ℕ) → shortestUnit ≤ frames → frames ≤ longestUnit → Within binary64 (stage .duration frames) (documentRanges .duration))
+        → Bounded documentRanges (phraseOf bytes) stage (c .columns)
+    stage-bounded stage few rows durations =
+        let f = phrase-fit in
+        record {
+          frames = f .fewFrames;
+          nuclei = f .nuclei .fewAnchors;
+          boundaries = few;
+          perFrame = f .perFrame;
+          insertion = f .insertion;
+          unvoiced = within-widens (f .unvoiced);
+          scores = λ row unit from below. within-widens (f .scores row _ (omega arith) (column unit));
+          durations = durations;
+        }
+
     pub bounded : PhraseBounded documentRanges (phraseOf bytes) (c .columns)
     bounded =
         let f = phrase-fit in
         record {
-          nuclei =
-              record {
-                frames = f .fewFrames;
-                nuclei = f .nuclei .fewAnchors;
-                boundaries = f .nuclei .fewBoundaries;
-                perFrame = f .perFrame;
-                insertion = f .insertion;
-                unvoiced = within-widens (f .unvoiced);
-                scores = λ row unit from below. within-widens (f .scores row _ (omega (arith, nuclei-first bytes)) (column unit));
-                durations = f .durations;
-              };
+          nuclei = stage-bounded (phraseOf bytes .nuclei) (f .nuclei .fewBoundaries) (omega (arith, nuclei-first bytes)) (f .durations);
           added = λ exists.
-              record {
-                frames = f .fewFrames;
-                nuclei = f .nuclei .fewAnchors;
-                boundaries = f .added .fewBoundaries;
-                perFrame = f .perFrame;
-                insertion = f .insertion;
-                unvoiced = within-widens (f .unvoiced);
-                scores = λ row unit from below. within-widens (f .scores row _ (omega (arith, added-next bytes)) (column unit));
-                durations = f .addedDurations (some-anchor (phraseOf bytes .added .anchors) exists);
-              };
+              stage-bounded (phraseOf bytes .added) (f .added .fewBoundaries) (omega (arith, added-next bytes))
+              (f .addedDurations (some-anchor (phraseOf bytes .added .anchors) exists));
         }

@@ -15,7 +15,7 @@ use Rattle.entries.specs.Ranking.{ranked}
 use Rattle.decode.specs.EntryOf.{entriesOf}
 use Rattle.decode.specs.Contract.{outcomeOf, Decodes}
 use Rattle.decode.specs.declared.answer.Decoded.the-variants.{Entries, Refused}
-use Rattle.decode.proofs.Bounded.{own-rules}
+use Rattle.decode.proofs.Calls.{own-rules}
 use Rattle.decode.proofs.Demands.{demands, ranking}
 
 module _ (bytes : List ℕ) (best : List Float) (back out : List ℕ) where

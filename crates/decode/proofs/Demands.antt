@@ -1,25 +1,29 @@
 -- Demand 3 is met for each candidate of every accepted record, whatever scores and costs it lends; its entries can be ranked and have room
 -- for their units, and their ranking is the one that document 01 asks for.
-use Prim.Native.Nat.{ℕ, zero, suc, _≤_, _<_}
+use Prim.Native.Nat.{ℕ, zero, suc, _*_, _≤_, _<_}
 use mathlib.Core.List.{List, [], _∷_, map}
 use mathlib.Core.Option.{none}
-use mathlib.Core.Path.{_≡_, refl, sym, subst}
+use mathlib.Core.Path.{_≡_, refl, sym, ap, subst, _∙_}
 use native.Mathlib.Omega.{arith}
-use lib.ListN.{length, getD}
+use lib.ListN.{length, getD, length-map}
 use Rattle.ieee.proofs.NarrowClamp.{clampedLog-comparable}
-use Rattle.phrase.specs.Phrase.{Phrase, Candidate}
-use Rattle.paths.specs.Demand.{Demanded}
+use Rattle.phrase.specs.Phrase.{Candidate}
+use Rattle.paths.specs.Demand.{Answer, answerNumber, Demanded}
 use Rattle.paths.specs.Search.{chosen}
-use Rattle.paths.proofs.Answers.{document-room, chosen-demanded}
+use Rattle.paths.proofs.Demanded.{Alike, paths-alike, none-alike, unvoiced-alike}
+use Rattle.paths.proofs.Answers.{document-room, chosen-demanded, only-answer}
 use Rattle.record.specs.Edition.{edition1}
 use Rattle.record.specs.Layout.{layoutOf}
 use Rattle.record.specs.Refusals.{refusalOf}
 use Rattle.record.specs.Meaning.{phraseOf}
 use Rattle.record.specs.Accepted.{CandidateFit}
 use Rattle.entries.specs.Entry.{Entry}
+use Rattle.entries.specs.Words.{allWords}
 use Rattle.entries.specs.Placing.{Fit, All, Rankable}
 use Rattle.entries.specs.Ranking.{ranked, Ranked}
-use Rattle.entries.proofs.Ranks.{ranked-is}
+use Rattle.entries.proofs.EntryWords.{length-allWords}
+use Rattle.entries.proofs.Ranks.{all-ranked, ranked-is}
+use Rattle.entries.proofs.RankedWords.{length-ranked}
 use Rattle.decode.specs.EntryOf.{entryFor, entryBy, entryOf, entriesOf}
 use Rattle.decode.specs.Contract.{Meets, MeetsEach, all-met, each-met}
 use Rattle.decode.proofs.Bounded.{phrase-fit, bounded}
@@ -38,7 +42,7 @@ module _ (bytes : List ℕ) (accepted : refusalOf bytes ≡ none) where
   abbrev Fits : Candidate → Type 0
   Fits = CandidateFit (edition1 .units) (layoutOf bytes .scores .count)
 
-  answered : {c : Candidate} → Fits c → Demanded (phraseOf bytes) (c .columns) (chosen (phraseOf bytes) (c .columns))
+  pub answered : {c : Candidate} → Fits c → Demanded (phraseOf bytes) (c .columns) (chosen (phraseOf bytes) (c .columns))
   answered {c} fits = chosen-demanded document-room (bounded bytes accepted c fits)
 
   met : {c : Candidate} → Fits c → Meets (phraseOf bytes) c (entryOf (phraseOf bytes) c)
@@ -67,3 +71,21 @@ module _ (bytes : List ℕ) (accepted : refusalOf bytes ≡ none) where
       rankable : {es : List Entry} → All (Fit (edition1 .units)) es → All Rankable es
       rankable All.none = All.none
       rankable (All.more fits others) = All.more (fits .rankable) (rankable others)
+
+  -- "Words past M × 52 are untouched": the words of the entries are M × 52
+  pub words-long : length (allWords (edition1 .units) (ranked (entriesOf (phraseOf bytes)))) ≡ length (phraseOf bytes .candidates) * edition1 .«entry_words»
+  words-long =
+      length-allWords (edition1 .units) (all-ranked (Fit (edition1 .units)) entries-fit)
+      ∙ ap (λ (n : ℕ). n * edition1 .«entry_words»)
+      (length-ranked (entriesOf (phraseOf bytes)) ∙ length-map (phraseOf bytes .candidates) (entryOf (phraseOf bytes)))
+
+  -- Demand 3 leaves one answer, up to which of several best paths stands and the sign of a zero: so the pass is settled by it alone.
+  pub same-pass : {c : Candidate} {entry : Entry} → Fits c → Meets (phraseOf bytes) c entry → entry .pass ≡ entryOf (phraseOf bytes) c .pass
+  unfolding entryBy entryFor
+  same-pass {c} fits meets =
+      ap (λ (e : Entry). e .pass) (meets .reported) ∙ number (only-answer document-room (bounded bytes accepted c fits) (meets .demanded))
+    where
+      number : {one two : Answer} → Alike one two → answerNumber one ≡ answerNumber two
+      number (paths-alike equal) = refl
+      number none-alike = refl
+      number unvoiced-alike = refl

@@ -3,14 +3,14 @@ use Prim.Native.Nat.{ℕ, _*_}
 use mathlib.Core.Bool.{Bool, true, false, cond}
 use mathlib.Core.List.{List, [], _∷_, _++_, map, zipWith}
 use mathlib.Core.Option.{Option, none, some}
-use mathlib.Core.Path.{_≡_, refl, sym, ap, _∙_}
+use mathlib.Core.Path.{_≡_, refl, ap, _∙_}
 use lib.ListN.{length, replicate, drop}
 use lib.IntN.{pos, negsuc}
 use lib.Count.{trailingZeros}
-use lib.Ieee.{Float, fin, binary32, toBits, add, sub, mul, neg, ofInt, lt, le, eq, round, size, span, climb, units, odd, ofBits, ofFields, isNan}
+use lib.Ieee.{Float, fin, binary32, toBits, add, sub, mul, neg, ofInt, lt, round, ofBits, ofFields, isNan}
 use Rattle.ieee.specs.Convert.{clamped, narrowed, clampedLog}
 use Rattle.ieee.specs.TotalOrder.{totalBefore}
-use Rattle.phrase.specs.Phrase.{Phrase, Stage, Candidate, spoken}
+use Rattle.phrase.specs.Phrase.{Phrase, Stage, Candidate, Speech, spoken}
 use Rattle.paths.specs.declared.passes.Strictness.the-variants.{Strict}
 use Rattle.paths.specs.Anchors.{Anchor, keptIn}
 use Rattle.paths.specs.Units.{admitsUnit}
@@ -21,7 +21,7 @@ use Rattle.paths.specs.Search.{chosen}
 use Rattle.evidence.specs.Outcome.{accepted}
 use Rattle.evidence.specs.Frames.{highestBelow, lowestFrom, ascendingFrom}
 use Rattle.evidence.specs.Spans.{spanOf, spansOf}
-use Rattle.evidence.specs.Rate.{insert, sorted, gapsAfter, below, firstAt, median, rate}
+use Rattle.evidence.specs.Rate.{sorted, gapsAfter, below, firstAt, median, rate}
 use Rattle.clip.specs.declared.clip.Span.{Span}
 use Rattle.clip.specs.Clip.{anchored, unanchored, reported}
 use Rattle.clip.proofs.Examples as clip
@@ -31,7 +31,7 @@ use Rattle.record.specs.Edition.{edition1}
 use Rattle.record.specs.Layout.{trailerOf, layoutFrom, layoutOf}
 use Rattle.record.specs.Conditions.{shortDesk}
 use Rattle.record.specs.Refusals.{refusalWith}
-use Rattle.record.specs.Meaning.{phraseAt, phraseOf}
+use Rattle.record.specs.Meaning.{phraseOf}
 use Rattle.record.specs.Sample.{sample}
 use Rattle.record.specs.declared.refusal.Refusal.{Refusal}
 use Rattle.record.specs.declared.refusal.Refusal.the-variants.{Desk}
@@ -48,11 +48,11 @@ use Rattle.decode.specs.declared.answer.Decoded.{Decoded}
 -- ---- "this phrase": the sample, from its 1,376 bytes to the words of the listing
 
 -- To name them on an `unfolding` line opens all that an entry is worked out by, and all that a record's words are.
-unfoldable workedEntry : Phrase → Candidate → Entry
+unfoldable pub workedEntry : Phrase → Candidate → Entry
 unfolding entryBy chosen hasNucleus keptIn cost admitsUnit unitValueOf add sub mul neg ofInt lt isNan clampedLog clamped narrowed reportedIn zipWith unitsOf highestBelow lowestFrom
 workedEntry = entryOf
 
-unfoldable workedWords : ℕ → List ℕ → List ℕ
+unfoldable pub workedWords : ℕ → List ℕ → List ℕ
 unfolding workedEntry allWords rankOnto totalBefore toBits phraseOf layoutOf layoutFrom trailerOf u32At u64At listed ofBits ofFields trailingZeros
 workedWords most bytes = allWords most (ranked (entriesOf (phraseOf bytes)))
 
@@ -65,7 +65,7 @@ sample-words : allWords (edition1 .units) (ranked (entriesOf (phraseOf sample)))
 unfolding workedWords sample
 sample-words = refl
 
-sample-candidates : length (phraseOf sample .candidates) ≡ 2
+pub sample-candidates : length (phraseOf sample .candidates) ≡ 2
 unfolding workedWords sample
 sample-candidates = refl
 
@@ -139,26 +139,30 @@ narrows = refl
 
 -- ---- "boundaries 0, 6, 12, all values zero, relaxed, one unit: 0..6"
 
-abbrev nought : Float
+abbrev pub nought : Float
 nought = fin false 0 (pos 0)
 
-abbrev stageOf : List ℕ → ℕ → List ℕ → Stage
+abbrev pub stageOf : List ℕ → ℕ → List ℕ → Stage
 stageOf anchors firstRow boundaries = record { anchors = anchors; firstRow = firstRow; boundaries = boundaries; duration = λ frames. nought }
 
-abbrev candidate : Candidate
+abbrev pub candidate : Candidate
 candidate = record { id = 1; columns = 0 ∷ [] }
 
--- a mask of ones, speech throughout, and no figure but zero
-abbrev zeroPhrase : ℕ → Stage → Stage → Phrase
-zeroPhrase frames nuclei added = record {
+-- a mask of ones, and no figure but the unvoiced score
+abbrev pub plainPhrase : Speech → Float → ℕ → Stage → Stage → Phrase
+plainPhrase speech unvoiced frames nuclei added = record {
   mask = replicate frames 1;
   nuclei = nuclei;
   added = added;
   score = λ row column. nought;
   candidates = candidate ∷ [];
-  costs = record { «per_frame» = nought; «insertion_llr» = nought; «unvoiced» = nought };
-  speech = spoken 0 frames;
+  costs = record { «per_frame» = nought; «insertion_llr» = nought; «unvoiced» = unvoiced };
+  speech = speech;
 }
+
+-- every figure zero, and speech throughout
+abbrev pub zeroPhrase : ℕ → Stage → Stage → Phrase
+zeroPhrase frames = plainPhrase (spoken 0 frames) nought frames
 
 -- the only nucleus is past the last boundary, so that no strict unit is there
 pub lowest-first : entryOf (zeroPhrase 13 (stageOf (12 ∷ []) 0 (0 ∷ 6 ∷ 12 ∷ [])) (stageOf [] 1 [])) candidate ≡ record {

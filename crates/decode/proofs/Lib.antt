@@ -1,4 +1,5 @@
 -- Laws of this layer's definitions.
+pub mod Calls
 pub mod Bounded
 mod Units
 pub mod Demands
@@ -7,4 +8,10 @@ pub mod OneOutcome
 mod Placing
 mod Fronts
 mod Reporting
+mod Plans
+mod Scoring
+mod InTurn
+mod Cleared
 mod Group
+mod Examples
+mod ShutOut

@@ -1,18 +1,20 @@
--- The contract leaves nothing open: two outcomes of one call that both meet it are the same, in the answer and in every lent buffer.
-use Prim.Native.Nat.{ℕ, zero, suc, _-_}
+-- Each call has exactly one outcome that meets the contract. There is one, so that it asks nothing impossible; and two that meet it are
+-- the same, in the answer and in every lent buffer, so that it leaves nothing open.
+use Prim.Native.Nat.{ℕ, _-_}
 use mathlib.Core.List.{List, [], _∷_}
 use mathlib.Core.Option.{Option, none, some}
 use mathlib.Core.Path.{_≡_, refl, sym, ap, _∙_}
-use borrow.Author.Tests.{eqb-false}
 use lib.ListN.{length, getD}
 use lib.Ieee.{Float}
 use Rattle.evidence.specs.Outcome.{Outcome, accepted, refused}
 use Rattle.record.specs.Refusals.{numberOf, refusalWith}
 use Rattle.record.specs.declared.refusal.Refusal.{Refusal}
 use Rattle.record.specs.declared.refusal.Refusal.the-variants.{Stub, Edition, Size, Reach, Track, Cost, Bare, Twice, Units, Column, Desk}
+use Rattle.record.specs.Meaning.{phraseOf}
 use Rattle.decode.specs.Contract.{outcome, Decodes}
 use Rattle.decode.specs.declared.answer.Decoded.{Decoded}
 use Rattle.decode.specs.declared.answer.Decoded.the-variants.{Entries, Refused}
+use Rattle.decode.proofs.Decodes.{decodes-refused, decodes-accepted}
 
 -- ---- an answer is known by its number and value
 
@@ -66,3 +68,14 @@ one-outcome bytes best back out {a₁} {a₂} {best₁} {best₂} {back₁} {bac
         let w = one .refuses q e in
         let v = two .refuses q e in
         record { answers = answers; values = w .values ∙ sym (v .values); marks = w .marks ∙ sym (v .marks); words = w .words ∙ sym (v .words) }
+
+pub some-outcome :
+    (bytes : List ℕ) (best : List Float) (back out : List ℕ) →
+    (answer : Decoded) × (best′ : List Float) × (back′ : List ℕ) × (out′ : List ℕ) × Decodes bytes best back out answer best′ back′ out′
+some-outcome bytes best back out = go (refusalWith bytes (length best) (length back) (length out)) refl
+  where
+    go :
+        (o : Option Refusal) → refusalWith bytes (length best) (length back) (length out) ≡ o →
+        (answer : Decoded) × (best′ : List Float) × (back′ : List ℕ) × (out′ : List ℕ) × Decodes bytes best back out answer best′ back′ out′
+    go none e = (Entries (length (phraseOf bytes .candidates)), _, _, _, decodes-accepted bytes best back out _ e refl refl refl refl)
+    go (some q) e = (Refused q, best, back, out, decodes-refused bytes best back out q e)

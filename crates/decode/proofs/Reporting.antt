@@ -32,7 +32,7 @@ use Rattle.clip.specs.Clip.{Placed, anchored, unanchored, given, reported, star
 use Rattle.clip.specs.Units.{unitAt, unitsFrom, unitsOf}
 use Rattle.clip.specs.declared.clip.Span.{Span}
 use Rattle.entries.specs.Entry.{ReportedUnit, noRow}
-use Rattle.entries.specs.Placing as Entries
+use Rattle.entries.specs.EntryFrom as Entries
 use Rattle.decode.specs.declared.report.PlacedUnit.{PlacedUnit}
 use Rattle.decode.specs.declared.report.Reported.{Reported}
 use Rattle.decode.specs.Report.{lowEdge, highEdge, heldBy, placedBy, placed, reportedUnit, reportedIn}

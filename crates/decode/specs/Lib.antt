@@ -2,4 +2,6 @@
 pub mod Report
 pub mod Places
 pub mod EntryOf
+pub mod Plans
+pub mod Scored
 pub mod Contract

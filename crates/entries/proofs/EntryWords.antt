@@ -1,21 +1,38 @@
 -- How many words entries have, and how an entry's words come to stand in the output.
-use Prim.Native.Nat.{ℕ, zero, suc, _+_, _-_, _*_, _≤_}
+use Prim.Native.Nat.{ℕ, zero, suc, _+_, _-_, _*_, _≤_, _<_}
 use mathlib.Core.Path.{_≡_, refl, sym, ap, ap₂, _∙_}
 use mathlib.Core.List.{List, [], _∷_, _++_, append-assoc}
-use native.Mathlib.Nat.{zero-mul, suc-mul}
+use native.Mathlib.Nat.{add-zero, zero-add, zero-mul, suc-mul}
 use native.Mathlib.Omega.{arith}
-use lib.ListN.{length, take, drop, replicate, length-append, length-replicate}
-use lib.Seq.{sets, sets-eq}
+use lib.ListN.{length, getD, take, drop, replicate, length-append, length-replicate}
+use lib.Seq.{sets, sets-eq, ext-getD}
 use lib.Ieee.{binary32, toBits}
 use Rattle.entries.specs.Entry.{ReportedUnit, Entry}
 use Rattle.entries.specs.Words.{unitWords, entryWords, wordsOf, allWords}
-use Rattle.entries.specs.Placing.{unitsFrom, Fit, All, none, more}
+use Rattle.entries.specs.EntryFrom.{unitAt, unitsFrom}
+use Rattle.entries.specs.Placing.{Fit, All, none, more}
 use Rattle.entries.proofs.Stores.{sets-append}
 
 pub length-unitsFrom : (starts ends rows : List ℕ) (left i : ℕ) → length (unitsFrom starts ends rows left i) ≡ left
 unfolding unitsFrom
 length-unitsFrom starts ends rows zero i = refl
 length-unitsFrom starts ends rows (suc left) i = ap suc (length-unitsFrom starts ends rows left (suc i))
+
+pub unit-at : (starts ends rows : List ℕ) (left from i : ℕ) (other : ReportedUnit) → i < left → getD (unitsFrom starts ends rows left from) i other ≡ unitAt starts ends rows (from + i)
+unfolding unitsFrom
+unit-at starts ends rows (suc left) from zero other h = ap (unitAt starts ends rows) (sym (add-zero from))
+unit-at starts ends rows (suc left) from (suc i) other h =
+    unit-at starts ends rows left (suc from) i other (omega arith) ∙ ap (unitAt starts ends rows) (omega arith)
+unit-at starts ends rows zero from i other h = absurd (omega arith)
+
+-- three lists hold a list of units, if they do so one by one
+pub units-are : (starts ends rows : List ℕ) (us : List ReportedUnit) (other : ReportedUnit)
+    → ((i : ℕ) → i < length us → unitAt starts ends rows i ≡ getD us i other)
+    → unitsFrom starts ends rows (length us) 0 ≡ us
+units-are starts ends rows us other each =
+    let long = length-unitsFrom starts ends rows (length us) 0 in
+    ext-getD other (unitsFrom starts ends rows (length us) 0) us long
+    (λ i h. unit-at starts ends rows (length us) 0 i other (omega arith) ∙ ap (unitAt starts ends rows) (zero-add i) ∙ each i (omega arith))
 
 length-unitWords : (us : List ReportedUnit) → length (unitWords us) ≡ 3 * length us
 unfolding unitWords

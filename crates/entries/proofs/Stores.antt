@@ -1,6 +1,6 @@
 -- Stores one after the other (`sets`): what is left to store after a turn of a loop, and what two runs of stores make.
-use Prim.Native.Nat.{ℕ, zero, suc, _+_, _-_, _*_, _≤_, _<_}
-use mathlib.Core.Path.{_≡_, refl, sym, ap, _∙_}
+use Prim.Native.Nat.{ℕ, suc, _+_, _-_, _*_, _≤_, _<_}
+use mathlib.Core.Path.{_≡_, sym, ap, _∙_}
 use mathlib.Core.List.{List, [], _∷_, _++_}
 use native.Mathlib.Nat.{add-zero, suc-add, add-suc}
 use native.Mathlib.Numerals.{add-one, add-two, add-three}
@@ -8,7 +8,7 @@ use native.Mathlib.Omega.{arith}
 use lib.ListN.{length, getD, set, replicate}
 use lib.Seq.{sets}
 use Rattle.entries.specs.Words.{unitWords}
-use Rattle.entries.specs.Placing.{unitsFrom}
+use Rattle.entries.specs.EntryFrom.{unitsFrom}
 
 pub sets-append : (l xs ys : List ℕ) (i : ℕ) → sets l i (xs ++ ys) ≡ sets (sets l i xs) (i + length xs) ys
 sets-append l [] ys i = ap (λ (n : ℕ). sets l n ys) (sym (add-zero i))

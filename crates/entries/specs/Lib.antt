@@ -2,4 +2,5 @@
 pub mod Entry
 pub mod Words
 pub mod Ranking
+pub mod EntryFrom
 pub mod Placing

@@ -9,7 +9,7 @@ ghost use lib.ListN.{length, take, drop, replicate};
 ghost use lib.Seq.{sets};
 ghost use lib.Ieee.{Float, binary32, isNan, toBits};
 ghost use Rattle.entries.specs.Words.{unitWords, entryWords, wordsOf};
-ghost use Rattle.entries.specs.Placing.{mostUnits, unitsFrom, entryFrom};
+ghost use Rattle.entries.specs.EntryFrom.{mostUnits, unitsFrom, Writable, entryFrom};
 
 // How many units an entry has room for.
 pub const MOST_UNITS: usize = 16;
@@ -73,8 +73,7 @@ pub fn put_entry(
     rows: &[u32],
 )
     requires { ⌜ at + entryWords mostUnits ≤ length (now out) ⌝ }
-    requires { ⌜ (head .units ≤ mostUnits) × T (not (isNan (head .llr))) ⌝ }
-    requires { ⌜ (head .units ≤ length (now starts)) × (head .units ≤ length (now ends)) × (head .units ≤ length (now rows)) ⌝ }
+    requires { ⌜ Writable mostUnits head (now starts) (now ends) (now rows) ⌝ }
     ensures { λ r. ⌜ ((total : Float) → now (out .exit) ≡ take at (now (out .entry)) ++ wordsOf mostUnits (entryFrom head (now (starts .entry)) (now (ends .entry)) (now (rows .entry)) total) ++ drop (at + entryWords mostUnits) (now (out .entry))) ⌝ }
 {
     let units = head.units;

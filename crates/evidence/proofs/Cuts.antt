@@ -1,6 +1,6 @@
 -- Laws of a span's edges: beside no neighbour, beside one that overlaps, and beside one that does not.
 use Prim.Native.Nat.{ℕ, _≤_, _<_}
-use mathlib.Core.Path.{_≡_, refl, sym, ap, _∙_}
+use mathlib.Core.Path.{_≡_}
 use mathlib.Core.List.{List}
 use borrow.Author.Tests.{lt-ltb, le-ltb}
 use Rattle.evidence.specs.Spans.{uncutStart, uncutEnd, cut, startBeside, endBeside}

@@ -1,7 +1,7 @@
 -- Document 01's worked examples of this layer ("Proved as a group").
 use Prim.Native.Nat.{ℕ, zero, suc, _-_, _/_, _%_, min, max}
 use mathlib.Core.Bool.{Bool, true, false, cond}
-use mathlib.Core.Path.{_≡_, refl, sym, ap, ap₂, _∙_}
+use mathlib.Core.Path.{_≡_, refl, ap, ap₂, _∙_}
 use mathlib.Core.List.{List, [], _∷_}
 use native.Mathlib.Nat.{sub-self}
 use native.Mathlib.Omega.{arith}
@@ -10,8 +10,7 @@ use lib.Ieee.{Float, binary64, add, mul, lt, ofInt, ofBits}
 use lib.ListN.{length, replicate}
 use Rattle.evidence.specs.Frames.{highestBelow, lowestFrom, ascendingFrom}
 use Rattle.evidence.specs.Spans.{spanOf, spansOf}
-use Rattle.evidence.specs.Rate.{insert, sorted, gaps, gapsAfter, below, standsAt, firstAt, atPlace, counted, half, frameSeconds, nought, median, positiveOr, rate}
-use Rattle.evidence.specs.declared.evidence.Span.{Span}
+use Rattle.evidence.specs.Rate.{insert, sorted, gapsAfter, below, standsAt, firstAt, counted, half, frameSeconds, nought, median, positiveOr, rate}
 
 -- "frames 10, 30, 60 give rate 0.25", whatever the default
 pub rate-of-three : (default : Float) → rate (10 ∷ 30 ∷ 60 ∷ []) default ≡ ofBits binary64 0x3fd0_0000_0000_0000

@@ -1,14 +1,14 @@
 -- What document 01 claims of spans: each holds its nucleus, they stand in order, and they never overlap.
 use Prim.Native.Nat.{ℕ, zero, suc, _+_, _≤_, _<_, min, max}
 use mathlib.Core.Bool.{Bool, true, false, not, cond}
-use mathlib.Core.Path.{_≡_, refl, sym, ap, subst, _∙_}
-use mathlib.Core.List.{List, [], _∷_, map, List·Memᴰ}
+use mathlib.Core.Path.{_≡_, refl, ap}
+use mathlib.Core.List.{List, _∷_, map, List·Memᴰ}
 use native.Mathlib.Nat.{le-refl}
 use native.Mathlib.Omega.{arith}
 use lib.Dec.{T, ltb, ltb→lt, nltb→le}
 use lib.ListN.{length}
 use Rattle.evidence.specs.Frames.{highestBelow, lowestFrom, onward, ascendingFrom, orElse}
-use Rattle.evidence.specs.Spans.{uncutStart, uncutEnd, cut, startBeside, endBeside, spanOf, spansOf, Apart, none, one, more}
+use Rattle.evidence.specs.Spans.{uncutStart, uncutEnd, startBeside, endBeside, spanOf, spansOf, Apart, none, one, more}
 use Rattle.evidence.specs.declared.frames.Nearest.{Nearest}
 use Rattle.evidence.specs.declared.frames.Nearest.the-variants.{None, At}
 use Rattle.evidence.proofs.Neighbours.{IsHighest, IsLowest, highest-is, lowest-is, lowest}
@@ -75,7 +75,8 @@ module _ (frames bounds : List ℕ) (lo hi : ℕ) where
               omega arith
 
   -- neighbours meet at the cut or do not overlap
-  meet : {f g : ℕ} → List·Memᴰ f frames → lowestFrom (f + 1) frames ≡ At g → spanOf frames bounds lo hi f .end ≤ spanOf frames bounds lo hi g .start
+  meet : {f g : ℕ} → List·Memᴰ f frames → lowestFrom (f + 1) frames ≡ At g
+      → spanOf frames bounds lo hi f .end ≤ spanOf frames bounds lo hi g .start
   unfolding spanOf
   meet {f} {g} m there = go (ltb s e) (ltb→lt s e) (nltb→le s e)
     where
@@ -85,7 +86,8 @@ module _ (frames bounds : List ℕ) (lo hi : ℕ) where
       e : ℕ
       e = uncutEnd bounds hi f
 
-      go : (b : Bool) → (T b → s < e) → (T (not b) → e ≤ s) → endBeside bounds lo hi f (lowestFrom (f + 1) frames) ≤ startBeside bounds lo hi (highestBelow g frames) g
+      go : (b : Bool) → (T b → s < e) → (T (not b) → e ≤ s)
+          → endBeside bounds lo hi f (lowestFrom (f + 1) frames) ≤ startBeside bounds lo hi (highestBelow g frames) g
       go true over _ =
           rw (end-cut bounds lo hi f g s e refl refl there (over tt), start-cut bounds lo hi f g s e refl refl (back m there) (over tt)) (le-refl _)
       go false _ apart =
@@ -111,6 +113,7 @@ module _ (frames bounds : List ℕ) (lo hi : ℕ) where
       from zero = none
       from (suc n) = go (lowestFrom 0 frames) (lowest-is 0 frames)
         where
-          go : (near : Nearest) → IsLowest 0 frames near → Apart (map (spanOf frames bounds lo hi) (onward near (λ g. ascendingFrom n (g + 1) frames)))
+          go : (near : Nearest) → IsLowest 0 frames near
+              → Apart (map (spanOf frames bounds lo hi) (onward near (λ g. ascendingFrom n (g + 1) frames)))
           go None is = none
           go (At g) is = apart-on n (is .member)

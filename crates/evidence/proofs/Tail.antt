@@ -1,7 +1,7 @@
 -- Laws of a creaky tail: one turn and the end of the walk down to the last pitched frame, and of the walk along the run.
 use Prim.Native.Nat.{ℕ, zero, suc, _+_, _-_, _≤_, _<_, zero-le, suc-le-suc}
 use mathlib.Core.Bool.{Bool, true, false, cond}
-use mathlib.Core.Path.{_≡_, refl, sym, ap, _∙_}
+use mathlib.Core.Path.{_≡_, refl, ap, _∙_}
 use mathlib.Core.List.{List}
 use native.Mathlib.Nat.{not-suc-le-zero, le-of-suc-le-suc}
 use native.Mathlib.Numerals.{add-one, sub-one}
@@ -9,11 +9,11 @@ use native.Mathlib.Omega.{arith}
 use borrow.Author.Tests.{le-leb, lt-leb}
 use Rattle.evidence.specs.Masks.{marked}
 use Rattle.evidence.specs.CreakyTail.{lastPitched, inTail, runFrom}
-use Rattle.evidence.specs.declared.frames.Nearest.{Nearest}
 use Rattle.evidence.specs.declared.frames.Nearest.the-variants.{None, At}
 
 module _ (pitched : List ℕ) (start : ℕ) where
-  last-turn : (i : ℕ) → start < i → lastPitched pitched start i ≡ cond (marked pitched (i - 1)) (At (i - 1)) (lastPitched pitched start (i - 1))
+  last-turn : (i : ℕ) → start < i
+      → lastPitched pitched start i ≡ cond (marked pitched (i - 1)) (At (i - 1)) (lastPitched pitched start (i - 1))
   unfolding lastPitched
   last-turn zero h = absurd (not-suc-le-zero h)
   last-turn (suc e) h = rw (sub-one, le-leb start e (le-of-suc-le-suc h))
@@ -30,13 +30,15 @@ module _ (pitched : List ℕ) (start : ℕ) where
   last-none (suc e) h = rw (lt-leb start e h)
 
 module _ (pitched vowel : List ℕ) where
-  run-turn : (i stop : ℕ) → i < stop → runFrom pitched vowel i (stop - i) ≡ cond (inTail pitched vowel i) (suc (runFrom pitched vowel (i + 1) (stop - (i + 1)))) 0
+  run-turn : (i stop : ℕ) → i < stop
+      → runFrom pitched vowel i (stop - i) ≡ cond (inTail pitched vowel i) (suc (runFrom pitched vowel (i + 1) (stop - (i + 1)))) 0
   unfolding runFrom
   run-turn i stop h =
       let ahead : stop - i ≡ suc (stop - (i + 1)) = omega arith in
       ap (runFrom pitched vowel i) ahead ∙ rw (add-one i)
 
-  pub run-on : (i stop : ℕ) → i < stop → inTail pitched vowel i ≡ true → runFrom pitched vowel i (stop - i) ≡ suc (runFrom pitched vowel (i + 1) (stop - (i + 1)))
+  pub run-on : (i stop : ℕ) → i < stop → inTail pitched vowel i ≡ true
+      → runFrom pitched vowel i (stop - i) ≡ suc (runFrom pitched vowel (i + 1) (stop - (i + 1)))
   run-on i stop h e = run-turn i stop h ∙ rw e
 
   pub run-ends : (i stop : ℕ) → i < stop → inTail pitched vowel i ≡ false → runFrom pitched vowel i (stop - i) ≡ 0

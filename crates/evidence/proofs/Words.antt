@@ -1,12 +1,12 @@
 -- Words written two by two from the output's first cell on: what is written, what is left to write, and what is untouched.
-use Prim.Native.Nat.{ℕ, zero, suc, _+_, _*_, _≤_, _<_}
-use mathlib.Core.Path.{_≡_, refl, sym, ap, ap₂, subst, _∙_}
+use Prim.Native.Nat.{ℕ, suc, _+_, _*_, _≤_, _<_}
+use mathlib.Core.Path.{_≡_, refl, sym, ap, ap₂, _∙_}
 use mathlib.Core.List.{List, [], _∷_, _++_, map, append-assoc, append-nil}
 use native.Mathlib.Numerals.{add-one}
 use native.Mathlib.Omega.{arith}
 use lib.ListN.{length, set, take, drop, length-append, length-set, take-append-drop}
-use lib.Seq.{length-take-le, take-suc-set, drop-set-lt, take-set-le, append-snoc, drop-drop}
-use Rattle.evidence.specs.Spans.{spanOf, wordsOf, overwritten}
+use lib.Seq.{length-take-le, take-suc-set, drop-set-lt, drop-drop}
+use Rattle.evidence.specs.Spans.{wordsOf, overwritten}
 use Rattle.evidence.specs.declared.evidence.Span.{Span}
 
 pub record Progress (words before out : List ℕ) (at : ℕ) (ahead : List ℕ) : Type 0 where

@@ -1,6 +1,6 @@
 -- How an entry answers: its values, or the number of a refusal (document 01, "What the decoder says no with").
 use Prim.Native.Nat.{ℕ}
-use mathlib.Core.Bool.{Bool, true, false, _||_, cond}
+use mathlib.Core.Bool.{Bool, false, _||_, cond}
 use mathlib.Core.List.{List, [], _∷_}
 use lib.Dec.{ltb}
 

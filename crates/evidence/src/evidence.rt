@@ -2,12 +2,15 @@
 
 use crate::frames;
 use crate::frames::Nearest;
+use crate::limits::LAST_FRAME;
+use crate::limits::MOST_BYTES;
+use crate::limits::MOST_FRAMES;
 use crate::masks;
 ghost use mathlib.Core.Path.{_≡_};
 ghost use Prim.Native.Nat.{_+_, _-_, _<_, _≤_, _^_};
 ghost use Rattle.evidence.specs.Spans.{uncutStart, uncutEnd, cut, startBeside, endBeside, spanOf, spansOf, wordsOf, overwritten, Writable, Answers};
 ghost use Rattle.evidence.specs.Frames.{highestBelow, lowestFrom};
-ghost use Rattle.evidence.specs.CreakyTail.{outcome, creakyTailOf, tailAfter, tailFrom, lastPitched, runFrom, stopOf, inTail};
+ghost use Rattle.evidence.specs.CreakyTail.{outcome, creakyTailOf, tailFrom, lastPitched, runFrom, stopOf, inTail};
 
 pub enum TailAnswer {
     Creaky(bool),
@@ -30,6 +33,7 @@ pub enum SpansAnswer {
 // A creaky tail has at least this many frames.
 const MIN_TAIL_FRAMES: usize = 5;
 
+// The last pitched frame of a span.
 fn last_pitched(pitched: &[u8], start: u32, end: u32) -> Nearest
     ensures { λ r. ⌜ r ≡ lastPitched (now (pitched .entry)) start end ⌝ }
 {
@@ -43,6 +47,7 @@ fn last_pitched(pitched: &[u8], start: u32, end: u32) -> Nearest
     Nearest::None
 }
 
+// Whether a frame is unpitched vowel speech.
 fn in_tail(pitched: &[u8], vowel_speech: &[u8], frame: usize) -> bool
     ensures { λ r. ⌜ r ≡ inTail (now (pitched .entry)) (now («vowel_speech» .entry)) frame ⌝ }
 {
@@ -63,6 +68,7 @@ fn run_from(pitched: &[u8], vowel_speech: &[u8], first: usize, stop: usize) -> u
     i - first
 }
 
+// Where a run has to stop: at the next nucleus, and never past the pitch mask.
 fn stop_of(next: Nearest, len: usize) -> usize
     ensures { λ r. ⌜ r ≡ stopOf next len ⌝ }
 {
@@ -75,6 +81,7 @@ fn stop_of(next: Nearest, len: usize) -> usize
     }
 }
 
+// Whether the run from `first` on is long enough and is not joined to the next nucleus.
 fn tail_from(next: Nearest, pitched: &[u8], vowel_speech: &[u8], first: usize) -> bool
     requires { ⌜ first < 2 ^ 63 ⌝ }
     ensures { λ r. ⌜ r ≡ tailFrom next (now (pitched .entry)) (now («vowel_speech» .entry)) first ⌝ }
@@ -86,6 +93,7 @@ fn tail_from(next: Nearest, pitched: &[u8], vowel_speech: &[u8], first: usize) -
     (MIN_TAIL_FRAMES <= run) & !joined
 }
 
+// Whether the syllable on a span ends in creak: a run of unpitched vowel speech that does not go on into the next one.
 pub fn creaky_tail(
     start: u32,
     end: u32,
@@ -95,14 +103,14 @@ pub fn creaky_tail(
 ) -> TailAnswer
     ensures { λ r. ⌜ outcome r ≡ creakyTailOf start end next (now (pitched .entry)) (now («vowel_speech» .entry)) ⌝ }
 {
-    if (pitched.len() > 2048) | (vowel_speech.len() > 2048) {
+    if (pitched.len() > MOST_BYTES) | (vowel_speech.len() > MOST_BYTES) {
         return TailAnswer::Size;
     }
     if masks::unfit(pitched)
         | masks::unfit(vowel_speech)
-        | (start > 4095)
-        | (end > 4095)
-        | frames::beyond(next, 4095)
+        | (start > LAST_FRAME)
+        | (end > LAST_FRAME)
+        | frames::beyond(next, LAST_FRAME)
     {
         return TailAnswer::Track;
     }
@@ -114,6 +122,7 @@ pub fn creaky_tail(
     }
 }
 
+// A span's edges by the boundaries alone.
 fn uncut_start(bounds: &[u32], lo_edge: u32, frame: u32) -> u32
     ensures { λ r. ⌜ r ≡ uncutStart (now (bounds .entry)) «lo_edge» frame ⌝ }
 {
@@ -148,6 +157,7 @@ fn cut(left: u32, right: u32) -> u32
     left + (apart / 2 + apart % 2)
 }
 
+// A span's edges, cut where its neighbours overlap it.
 fn span_start(frames: &[u32], bounds: &[u32], lo_edge: u32, hi_edge: u32, frame: u32) -> u32
     requires { ⌜ frame + 1 < 2 ^ 32 ⌝ }
     ensures { λ r. ⌜ r ≡ startBeside (now (bounds .entry)) «lo_edge» «hi_edge» (highestBelow frame (now (frames .entry))) frame ⌝ }
@@ -193,6 +203,7 @@ pub fn span_of(frames: &[u32], bounds: &[u32], lo_edge: u32, hi_edge: u32, frame
     }
 }
 
+// Writes the spans from the output's first cell on.
 fn write_spans(nuclei: &[u32], bounds: &[u32], lo_edge: u32, hi_edge: u32, out: &mut [u32])
     requires { ⌜ Writable (now nuclei) (now out) ⌝ }
     ensures { λ _. ⌜ now (out .exit) ≡ overwritten (wordsOf (spansOf (now (nuclei .entry)) (now (bounds .entry)) «lo_edge» «hi_edge»)) (now (out .entry)) ⌝ }
@@ -212,6 +223,7 @@ fn write_spans(nuclei: &[u32], bounds: &[u32], lo_edge: u32, hi_edge: u32, out: 
     }
 }
 
+// The span of each distinct nucleus, ascending, as two words each; the answer is how many there are.
 pub fn tbu_spans(
     nuclei: &[u32],
     bounds: &[u32],
@@ -221,13 +233,13 @@ pub fn tbu_spans(
 ) -> SpansAnswer
     ensures { λ r. ⌜ Answers (now (nuclei .entry)) (now (bounds .entry)) «lo_edge» «hi_edge» (now (out .entry)) r (now (out .exit)) ⌝ }
 {
-    if (nuclei.len() > 64) | (bounds.len() > 64) {
+    if (nuclei.len() > MOST_FRAMES) | (bounds.len() > MOST_FRAMES) {
         return SpansAnswer::Size;
     }
-    if frames::any_above(nuclei, 4095)
-        | frames::any_above(bounds, 4095)
-        | (lo_edge > 4095)
-        | (hi_edge > 4095)
+    if frames::any_above(nuclei, LAST_FRAME)
+        | frames::any_above(bounds, LAST_FRAME)
+        | (lo_edge > LAST_FRAME)
+        | (hi_edge > LAST_FRAME)
     {
         return SpansAnswer::Track;
     }

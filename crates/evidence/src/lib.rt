@@ -5,5 +5,6 @@ pub mod duration;
 pub mod evidence;
 pub mod frames;
 pub mod joins;
+mod limits;
 mod masks;
 pub mod stage;

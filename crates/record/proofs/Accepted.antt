@@ -1,25 +1,23 @@
 -- The phrase of an accepted record fits: every bound that decoding goes by, from no condition of the record's own holding.
-use Prim.Native.Nat.{ℕ, _+_, _-_, _*_, _≤_, _<_}
-use mathlib.Core.Bool.{Bool, false, not, _&&_, _||_}
+use Prim.Native.Nat.{ℕ, _+_, _*_, _≤_, _<_}
+use mathlib.Core.Bool.{false, not, _&&_}
 use mathlib.Core.List.{List}
 use mathlib.Core.Path.{_≡_, sym, ap, subst, subst⁻¹, _∙_}
 use native.Mathlib.Nat.{lt-trans}
 use native.Mathlib.Omega.{arith}
 use borrow.Author.Tests.{ltb-false, leb-false, lt-ltb, eqb-false}
 use lib.Dec.{ltb, eqb}
-use lib.ListN.{length, getD}
-use lib.Ieee.{binary32, binary64}
+use lib.ListN.{length}
 use Rattle.ieee.specs.Range.{within}
-use Rattle.ieee.specs.Value.{Within}
-use Rattle.phrase.specs.Phrase.{Phrase, Stage, Candidate, spoken}
-use Rattle.record.specs.Bytes.{byteAt, u32At, u64At}
+use Rattle.phrase.specs.Phrase.{Candidate}
+use Rattle.record.specs.Bytes.{u32At, u64At}
 use Rattle.record.specs.Edition.{edition1}
 use Rattle.record.specs.Bounds.{Sized, Counted}
 use Rattle.record.specs.Layout.{trailerOf, layoutFrom, layoutOf}
-use Rattle.record.specs.Conditions.{lastFrame, noFrame, badList, badMask, badEdges, badTrack, speechStart, speechEnd, thousand, million, shortest, longest, firstTable, secondTable, f32At, f64At, badScores, badFigures, badTable, badCost, idAt, unitsAt, columnAt, repeated, badColumn}
-use Rattle.record.specs.Refusals.{firstOf, ownRules, refusalOf}
-use Rattle.record.specs.Meaning.{maskAt, framesAt, durationAt, scoreAt, speechOf, candidateAt, phraseAt, phraseOf}
-use Rattle.record.specs.Accepted.{Laid, Frames, StageFit, CandidateFit, Fit}
+use Rattle.record.specs.Conditions.{noFrame, badList, badMask, badEdges, badTrack, speechStart, speechEnd, thousand, million, firstTable, secondTable, f32At, f64At, badScores, badTable, badCost, idAt, unitsAt, columnAt}
+use Rattle.record.specs.Refusals.{refusalOf}
+use Rattle.record.specs.Meaning.{maskAt, framesAt, durationAt, candidateAt, phraseAt, phraseOf}
+use Rattle.record.specs.Accepted.{Laid, StageFit, CandidateFit, Fit}
 use Rattle.record.specs.declared.limits.Limits.{Limits}
 use Rattle.record.specs.declared.layout.Section.{Section}
 use Rattle.record.specs.declared.layout.Layout.{Layout}

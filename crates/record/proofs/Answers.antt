@@ -12,7 +12,6 @@ use Rattle.record.specs.Layout.{layoutOf}
 use Rattle.record.specs.Conditions.{shortDesk}
 use Rattle.record.specs.Refusals.{Rule, rule, firstOf, ownRules, refusalOf, refusalWith, answer, checkedOf, checkedWith}
 use Rattle.record.specs.Accepted.{Laid}
-use Rattle.record.specs.declared.layout.Section.{Section}
 use Rattle.record.specs.declared.layout.Layout.{Layout}
 use Rattle.record.specs.declared.refusal.Refusal.{Refusal}
 use Rattle.record.specs.declared.refusal.Refusal.the-variants.{Desk}
@@ -24,11 +23,11 @@ use Rattle.record.specs.declared.refusal.Checked.the-variants.{Refused, 
 differ : _≡_ {A = ℕ} 0 1 → ⊥
 differ = eqb-false 0 1 refl
 
-given : (o : Option Refusal) (at : Layout) (q : Refusal) → answer o at ≡ Refused q → o ≡ some q
+pub given : (o : Option Refusal) (at : Layout) (q : Refusal) → answer o at ≡ Refused q → o ≡ some q
 given none at q e = absurd (differ (cc))
 given (some p) at q e = let same : p ≡ q = cc in ap some same
 
-accepts : (o : Option Refusal) (there at : Layout) → answer o there ≡ Accepted at → (o ≡ none) × (at ≡ there)
+pub accepts : (o : Option Refusal) (there at : Layout) → answer o there ≡ Accepted at → (o ≡ none) × (at ≡ there)
 accepts none there at e = (refl, cc)
 accepts (some p) there at e = absurd (differ (cc))
 

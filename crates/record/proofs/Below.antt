@@ -1,9 +1,8 @@
 -- Laws of `anyBelow` and `listed`. A loop that looks for the first number at which a test holds keeps `anyBelow p i ≡ false`.
 use Prim.Native.Nat.{ℕ, zero, suc, _+_, _≤_, _<_}
-use mathlib.Core.Bool.{Bool, true, false, _||_, true≢false}
-use mathlib.Core.Path.{_≡_, refl, sym, ap, subst, _∙_}
+use mathlib.Core.Bool.{Bool, true, false, _||_, or-true}
+use mathlib.Core.Path.{_≡_, refl, sym, ap, _∙_}
 use mathlib.Core.Logic.{⊎-elim}
-use mathlib.Core.List.{List, [], _∷_}
 use native.Mathlib.Nat.{le-of-suc-le-suc, eq-or-lt-of-le, not-suc-le-zero, le-antisymm}
 use native.Mathlib.Numerals.{add-one}
 use lib.ListN.{length, getD}
@@ -24,10 +23,6 @@ module _ (p : ℕ → Bool) where
   any-found i zero l here = absurd (not-suc-le-zero l)
   any-found i (suc n) l here = ⊎-elim (λ e. at e) (λ lt. before (any-found i n lt here)) (eq-or-lt-of-le (le-of-suc-le-suc l))
     where
-      or-true : (a : Bool) → (a || true) ≡ true
-      or-true true = refl
-      or-true false = refl
-
       at : i ≡ n → (anyBelow p n || p n) ≡ true
       at e = ap (λ (b : Bool). anyBelow p n || b) (ap p (sym e) ∙ here) ∙ or-true (anyBelow p n)
 

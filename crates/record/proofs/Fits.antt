@@ -2,30 +2,27 @@
 use Prim.Native.Nat.{ℕ, zero, suc, _+_, _-_, _*_, _≤_, _<_}
 use mathlib.Core.Bool.{Bool, true, false, not, _&&_, _||_, cond}
 use mathlib.Core.List.{List}
-use mathlib.Core.Option.{none}
-use mathlib.Core.Path.{_≡_, refl, sym, ap, subst, subst⁻¹, _∙_}
+use mathlib.Core.Path.{_≡_, sym, subst, subst⁻¹}
 use mathlib.Core.Logic.{⊎-elim}
 use native.Mathlib.Nat.{le-of-suc-le-suc, eq-or-lt-of-le, lt-trans, not-suc-le-zero, mul-comm}
 use native.Mathlib.Numerals.{add-one}
 use native.Mathlib.Omega.{arith}
 use borrow.Author.Tests.{ltb-false, leb-false, not-false}
-use lib.Dec.{T, ltb, leb, lit≤}
+use lib.Dec.{T, ltb, lit≤}
 use lib.ListN.{length, getD}
-use lib.IntN.{pos}
 use lib.Ieee.{Float, binary32, binary64, ofBits}
 use lib.Ieee.Bits.{ofBits-fits}
-use Rattle.ieee.specs.Range.{between, within}
+use Rattle.ieee.specs.Range.{within}
 use Rattle.ieee.specs.Value.{Within}
 use Rattle.ieee.proofs.Magnitude.{whole-within, between-within, range-within, neg-within, weaken}
-use Rattle.phrase.specs.Phrase.{Phrase, Stage, Candidate, Speech, silent, spoken}
-use Rattle.record.specs.Bytes.{u32At, u64At}
-use Rattle.record.specs.Below.{anyBelow, listed}
-use Rattle.record.specs.Conditions.{lastFrame, noFrame, frameAt, lateFrame, unordered, badList, badMask, badEdges, badTrack, speechStart, speechEnd, thousand, million, duration?, shortest, longest, tableEntries, firstTable, secondTable, f32At, f64At, badScores, badFigures, badTable, badCost, idAt, unitsAt, columnAt, repeated, badColumn}
-use Rattle.record.specs.Meaning.{maskAt, framesAt, durationAt, scoreAt, speechOf, candidateAt, phraseAt, phraseOf}
-use Rattle.record.specs.Accepted.{Laid, Frames, StageFit, CandidateFit, Fit}
+use Rattle.phrase.specs.Phrase.{silent, spoken}
+use Rattle.record.specs.Bytes.{u64At}
+use Rattle.record.specs.Conditions.{lastFrame, frameAt, lateFrame, unordered, badList, thousand, million, duration?, shortest, longest, tableEntries, badTable}
+use Rattle.record.specs.Meaning.{framesAt, durationAt}
+use Rattle.record.specs.Accepted.{Frames}
 use Rattle.record.specs.declared.layout.Section.{Section}
 use Rattle.record.proofs.Tests.{or-left, or-right}
-use Rattle.record.proofs.Entries.{entry-within, units-some, units-most}
+use Rattle.record.proofs.Entries.{entry-within}
 use Rattle.record.proofs.Figures.{million-whole}
 use Rattle.record.proofs.Below.{none-below, length-listed, getD-listed}
 

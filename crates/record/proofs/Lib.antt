@@ -1,14 +1,15 @@
--- The laws of this layer for those above it.
-pub mod Tests
-pub mod Sizes
+-- Laws for those above: what a check answers (Answers), what every accepted record has (Accepted), what its readers hand over
+-- (Reading), lists by index (Below), and the sample phrase (SamplePhrase). The others are steps on the way.
+mod Tests
+mod Sizes
 pub mod Below
-pub mod Entries
-pub mod Rules
-pub mod Chain
-pub mod Passed
-pub mod Fits
+mod Entries
+mod Rules
+mod Chain
+mod Passed
+mod Figures
+mod Fits
 pub mod Accepted
 pub mod Answers
 pub mod Reading
-pub mod Figures
 pub mod SamplePhrase

@@ -11,8 +11,6 @@ use Rattle.record.specs.Layout.{trailerStart, trailerOf, layoutOf}
 use Rattle.record.specs.Conditions.{stub, otherEdition, oversized, overreaching, badTrack, badCost, bare, repeated, badUnits, badColumn}
 use Rattle.record.specs.Refusals.{firstOf, candidateRules, ownRules}
 use Rattle.record.specs.declared.limits.Limits.{Limits}
-use Rattle.record.specs.declared.layout.Section.{Section}
-use Rattle.record.specs.declared.layout.Layout.{Layout}
 use Rattle.record.specs.declared.refusal.Refusal.{Refusal}
 use Rattle.record.specs.declared.refusal.Refusal.the-variants.{Units, Column}
 use Rattle.record.proofs.Chain.{chain}

@@ -1,5 +1,5 @@
 -- Laws for the readers of an accepted record.
-use Prim.Native.Nat.{ℕ, zero, suc, _+_, _-_, _*_, _≤_, _<_}
+use Prim.Native.Nat.{ℕ, zero, suc, _+_, _*_, _≤_, _<_}
 use mathlib.Core.Bool.{Bool, not}
 use mathlib.Core.List.{List, [], _∷_, _++_, append-assoc}
 use mathlib.Core.Path.{_≡_, refl, sym, ap, subst, subst⁻¹, _∙_}
@@ -13,7 +13,7 @@ use lib.Ieee.{Float, nan, inf, fin, Format, binary32, binary64, ofBits, isNan, n
 use lib.Ieee.Bits.{nanBits-is}
 use lib.Ieee.Scale.{finite}
 use Rattle.ieee.specs.Value as Fine
-use Rattle.phrase.specs.Phrase.{Phrase, Stage, Candidate}
+use Rattle.phrase.specs.Phrase.{Phrase}
 use Rattle.record.specs.Bytes.{byteAt, u32At}
 use Rattle.record.specs.Below.{listed}
 use Rattle.record.specs.Edition.{edition1}
@@ -22,7 +22,7 @@ use Rattle.record.specs.Conditions.{shortest, longest, f32At}
 use Rattle.record.specs.Layout.{trailerStart, trailerOf, layoutFrom, layoutOf}
 use Rattle.record.specs.Meaning.{framesAt, durationAt, candidateAt, phraseAt, phraseOf}
 use Rattle.record.specs.Accepted.{Laid}
-use Rattle.record.specs.Reading.{stageOf, anchorSection, boundarySection, tableStart, HasTable, candidateOf, over, Copied, IsFloat, rowStart, ScoreRow}
+use Rattle.record.specs.Reading.{stageOf, anchorSection, boundarySection, tableStart, HasTable, candidateOf, over, Copied, rowStart, ScoreRow}
 use Rattle.record.specs.declared.layout.Section.{Section}
 use Rattle.record.specs.declared.layout.Layout.{Layout}
 use Rattle.record.specs.declared.read.Which.{Which}

@@ -10,7 +10,7 @@ use lib.ListN.{length, replicate, set, take}
 use lib.IntN.{pos, negsuc}
 use lib.Count.{trailingZeros}
 use lib.Ieee.{fin, le, lt, eq, neg, ofInt, round, size, span, climb, units, odd, ofBits, ofFields}
-use Rattle.phrase.specs.Phrase.{Phrase, Stage, spoken}
+use Rattle.phrase.specs.Phrase.{Phrase, spoken}
 use Rattle.record.specs.Bytes.{u32At, u64At}
 use Rattle.record.specs.Below.{anyBelow, listed}
 use Rattle.record.specs.Layout.{trailerOf, layoutFrom, layoutOf}

@@ -11,7 +11,6 @@ use Rattle.record.specs.Bounds.{Sized, Reaches, Reaching, Inside, Within
 use Rattle.record.specs.Layout.{layoutFrom}
 use Rattle.record.specs.Conditions.{oversized, outside, overreaching}
 use Rattle.record.specs.declared.limits.Limits.{Limits}
-use Rattle.record.specs.declared.trailer.Mark.{Mark}
 use Rattle.record.specs.declared.trailer.Trailer.{Trailer}
 use Rattle.record.proofs.Tests.{or-left, or-right, and-right, not-zero}
 

@@ -1,10 +1,10 @@
 -- Laws of tests: what a test that fails or passes says of its parts.
 use Prim.Native.Nat.{ℕ, _<_}
-use mathlib.Core.Bool.{Bool, true, false, not, _&&_, _||_, cond, true≢false, false≢true}
-use mathlib.Core.Path.{_≡_, refl, sym, _∙_}
+use mathlib.Core.Bool.{Bool, true, false, _&&_, _||_, cond, true≢false, false≢true}
+use mathlib.Core.Path.{_≡_, refl}
 use native.Mathlib.Omega.{arith}
-use borrow.Author.Tests.{eqb-false, eq-eqb}
-use lib.Dec.{T, eqb}
+use borrow.Author.Tests.{eqb-false}
+use lib.Dec.{eqb}
 
 -- a disjunction that is false has both its parts false
 pub or-left : (a b : Bool) → (a || b) ≡ false → a ≡ false

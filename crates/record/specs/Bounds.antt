@@ -3,9 +3,7 @@ use Prim.Native.Nat.{ℕ, _+_, _*_, _≤_, _<_}
 use mathlib.Core.Path.{_≡_}
 use Rattle.record.specs.Layout.{listBytes, scoreBytes, costsBytes}
 use Rattle.record.specs.declared.limits.Limits.{Limits}
-use Rattle.record.specs.declared.trailer.Mark.{Mark}
 use Rattle.record.specs.declared.trailer.Trailer.{Trailer}
-use Rattle.record.specs.declared.layout.Section.{Section}
 use Rattle.record.specs.declared.layout.Layout.{Layout}
 
 pub record Sized (l : Limits) (t : Trailer) : Type 0 where

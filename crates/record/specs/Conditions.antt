@@ -12,7 +12,6 @@ use Rattle.record.specs.Below.{anyBelow}
 use Rattle.ieee.specs.Range.{between, within}
 use Rattle.record.specs.Layout.{trailerBytes, listBytes, scoreBytes, costsBytes}
 use Rattle.record.specs.declared.limits.Limits.{Limits}
-use Rattle.record.specs.declared.trailer.Mark.{Mark}
 use Rattle.record.specs.declared.trailer.Trailer.{Trailer}
 use Rattle.record.specs.declared.layout.Section.{Section}
 use Rattle.record.specs.declared.layout.Layout.{Layout}

@@ -1,5 +1,5 @@
 -- The numbers of an edition. Everything else takes them as one record, so that another edition is another value of it.
-use Prim.Native.Nat.{ℕ, _+_, _≤_}
+use Prim.Native.Nat.{_+_, _≤_}
 use Rattle.record.specs.declared.limits.Limits.{Limits}
 
 -- Document 01: "Limits: F 2,048; N 32; B, A, D, C 64; M 16", "unit count 0 or above 16", "Candidate, 24 bytes", "Result: 52 u32 words for

@@ -3,7 +3,6 @@ use Prim.Native.Nat.{ℕ, _+_, _-_, _*_}
 use mathlib.Core.List.{List}
 use lib.ListN.{length}
 use Rattle.record.specs.Bytes.{u32At}
-use Rattle.record.specs.declared.limits.Limits.{Limits}
 use Rattle.record.specs.declared.trailer.Mark.{Mark}
 use Rattle.record.specs.declared.trailer.Trailer.{Trailer}
 use Rattle.record.specs.declared.layout.Section.{Section}

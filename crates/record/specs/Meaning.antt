@@ -4,7 +4,7 @@ use mathlib.Core.Bool.{_&&_, cond}
 use mathlib.Core.List.{List}
 use lib.Dec.{eqb}
 use lib.Ieee.{Float}
-use Rattle.phrase.specs.Phrase.{Phrase, Stage, Candidate, Speech, silent, spoken}
+use Rattle.phrase.specs.Phrase.{Phrase, Candidate, Speech, silent, spoken}
 use Rattle.phrase.specs.declared.costs.Costs.{Costs}
 use Rattle.record.specs.Bytes.{byteAt}
 use Rattle.record.specs.Below.{listed}

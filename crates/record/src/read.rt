@@ -15,7 +15,6 @@ ghost use Prim.Native.Nat.{_+_, _*_, _^_, _≤_, _<_};
 ghost use lib.Dec.{T};
 ghost use lib.ListN.{length, getD, drop};
 ghost use lib.Ieee.{isNan};
-ghost use Rattle.phrase.specs.Phrase.{Phrase, Stage, Candidate};
 ghost use Rattle.record.specs.Conditions.{f32At, shortest, longest};
 ghost use Rattle.record.specs.Meaning.{framesAt, phraseOf};
 ghost use Rattle.record.specs.Accepted.{Laid};

@@ -1,13 +1,13 @@
 -- Counting kept anchors: those before a boundary, those between two, and those ahead of one.
 use Prim.Native.Nat.{ℕ, zero, suc, _+_, _≤_, _<_, min}
 use mathlib.Core.Path.{_≡_, refl, sym, ap, ap₂, _∙_}
-use mathlib.Core.Bool.{Bool, true, false, not, _&&_, cond}
+use mathlib.Core.Bool.{Bool, true, false, _&&_, cond}
 use mathlib.Core.List.{List, [], _∷_, map, tail}
 use native.Mathlib.Omega.{arith}
 use native.Mathlib.Numerals.{add-one}
-use lib.Dec.{T, ltb, leb, leb→le, nleb→lt, ltb→lt, nltb→le}
+use lib.Dec.{ltb, leb}
 use lib.ListN.{length, getD, drop, length-map, drop-of-length-le}
-use borrow.Author.Tests.{lt-ltb, le-ltb, le-leb, lt-leb, ltb-true, leb-true, leb-false}
+use borrow.Author.Tests.{lt-ltb, le-ltb, le-leb, lt-leb, ltb-true}
 use Rattle.paths.specs.Frames.{Increasing, within}
 use Rattle.paths.specs.Anchors.{Anchor, select, numbered, keptIn, heldIn}
 use Rattle.paths.specs.LookAhead.{ahead}

@@ -1,5 +1,5 @@
 -- Kept anchors, one listed frame at a time, and the arrays that hold them.
-use Prim.Native.Nat.{ℕ, zero, suc, _+_, _≤_, _<_}
+use Prim.Native.Nat.{ℕ, suc, _+_, _<_}
 use mathlib.Core.Path.{_≡_, refl, sym, ap, ap₂, _∙_}
 use mathlib.Core.Bool.{Bool, true, false, not, cond}
 use mathlib.Core.List.{List, [], _∷_, _++_, map, append-nil}
@@ -12,9 +12,10 @@ use lib.Seq.{take-suc, length-take-le}
 use Rattle.paths.specs.Frames.{within}
 use Rattle.paths.specs.Passes.{nonEmpty}
 use Rattle.paths.specs.Anchors.{Anchor, select, numbered, keptIn}
+use Rattle.stages.specs.Room.{room}
 use Rattle.stages.specs.Listed.{padded}
 use Rattle.stages.specs.Tables.{beyond}
-use Rattle.stages.specs.Kept.{framesOf, rowsOf, room, Keeps}
+use Rattle.stages.specs.Kept.{Keeps}
 use Rattle.stages.proofs.Listed.{padded-none, padded-more}
 
 select-append : (test : Anchor → Bool) (xs ys : List Anchor) → select test (xs ++ ys) ≡ select test xs ++ select test ys

@@ -10,13 +10,14 @@ use Rattle.phrase.specs.declared.costs.Costs.{Costs}
 use Rattle.phrase.specs.Phrase.{Phrase, Stage}
 use Rattle.phrase.specs.Filler.{fillerCost}
 use Rattle.paths.specs.Frames.{speechIn}
-use Rattle.paths.specs.Anchors.{Anchor, keptIn, kept, heldIn}
+use Rattle.paths.specs.Anchors.{keptIn, kept, heldIn}
+use Rattle.paths.specs.Passes.{nonEmpty, hasNucleus}
 use Rattle.paths.specs.Units.{shortestUnit, longestUnit}
 use Rattle.paths.specs.LookAhead.{firstAhead, secondAhead, rowAhead}
 use Rattle.paths.specs.StageProblem.{cost, boundary}
+use Rattle.stages.specs.Room.{most}
 use Rattle.stages.specs.declared.tables.StageTables.{StageTables}
 use Rattle.stages.specs.Tables.{beyond, Tabled}
-use Rattle.stages.specs.Listed.{tableOf}
 use Rattle.stages.specs.Edges.{edge}
 use Rattle.stages.specs.Filler.{noCost}
 use Rattle.stages.specs.Parts.{costOf}
@@ -39,26 +40,26 @@ module _ (phrase : Phrase) (stage : Stage) (duration : List Float) (numbered : p
   unfolding tablesOf
   own-tables = record {
     sized = refl;
-    bounded = λ i h. table-at (λ j. getD (stage .boundaries) j 0) (length (stage .boundaries)) 64 0 0 i h;
+    bounded = λ i h. table-at (λ j. getD (stage .boundaries) j 0) (length (stage .boundaries)) most 0 0 i h;
     started = λ i h.
         table-at (λ j. neg (costOf (phrase .costs) (phrase .mask) (keptIn (phrase .mask) 0 (phrase .nuclei .anchors)) 0 (edge (stage .boundaries) (length (phrase .mask)) j)))
-        (length (stage .boundaries)) 64 noCost nan i h
+        (length (stage .boundaries)) most noCost nan i h
         ∙ ap neg (cost-is phrase numbered 0 (edge (stage .boundaries) (length (phrase .mask)) i) ∙ ap (cost phrase 0) (here i h));
     gapped = λ i h.
         table-at (λ j.
         costOf (phrase .costs) (phrase .mask) (keptIn (phrase .mask) 0 (phrase .nuclei .anchors)) (edge (stage .boundaries) (length (phrase .mask)) j)
         (edge (stage .boundaries) (length (phrase .mask)) (j + 1)))
-        (length (stage .boundaries)) 64 noCost nan i (omega arith)
+        (length (stage .boundaries)) most noCost nan i (omega arith)
         ∙ cost-is phrase numbered _ _
         ∙ ap₂ (cost phrase) (here i (omega arith)) (ap (λ (n : ℕ). edge (stage .boundaries) (length (phrase .mask)) n) (add-one i) ∙ here (suc i) h);
     stopped = λ i h.
         table-at (λ j.
         costOf (phrase .costs) (phrase .mask) (keptIn (phrase .mask) 0 (phrase .nuclei .anchors)) (edge (stage .boundaries) (length (phrase .mask)) j) (length (phrase .mask)))
-        (length (stage .boundaries)) 64 noCost nan i h
+        (length (stage .boundaries)) most noCost nan i h
         ∙ cost-is phrase numbered _ _ ∙ ap (λ (b : ℕ). cost phrase b (length (phrase .mask))) (here i h);
-    firsts = λ i h. table-at (λ j. firstAhead beyond (kept phrase stage) (getD (stage .boundaries) j 0)) (length (stage .boundaries)) 64 0 0 i h;
-    seconds = λ i h. table-at (λ j. secondAhead beyond (kept phrase stage) (getD (stage .boundaries) j 0)) (length (stage .boundaries)) 64 0 0 i h;
-    rows = λ i h. table-at (λ j. rowAhead 0 (kept phrase stage) (getD (stage .boundaries) j 0)) (length (stage .boundaries)) 64 0 0 i h;
+    firsts = λ i h. table-at (λ j. firstAhead beyond (kept phrase stage) (getD (stage .boundaries) j 0)) (length (stage .boundaries)) most 0 0 i h;
+    seconds = λ i h. table-at (λ j. secondAhead beyond (kept phrase stage) (getD (stage .boundaries) j 0)) (length (stage .boundaries)) most 0 0 i h;
+    rows = λ i h. table-at (λ j. rowAhead 0 (kept phrase stage) (getD (stage .boundaries) j 0)) (length (stage .boundaries)) most 0 0 i h;
     durations = timed;
   }
 
@@ -76,3 +77,9 @@ made mask nuclei anchors firstRow bounds duration costs t e = record {
   exact = e;
   tabled = λ phrase stage parts. subst (Tabled phrase stage) (sym e) (tables-of mask nuclei anchors firstRow bounds duration costs phrase stage parts);
 }
+
+-- what `has_nucleus` answers, of a phrase with this mask and these nuclei
+pub nucleus-of : (phrase : Phrase) → phrase .nuclei .firstRow ≡ 0
+    → nonEmpty (keptIn (phrase .mask) 0 (phrase .nuclei .anchors)) ≡ hasNucleus phrase
+unfolding hasNucleus
+nucleus-of phrase e = ap (λ (row : ℕ). nonEmpty (keptIn (phrase .mask) row (phrase .nuclei .anchors))) (sym e)

@@ -1,6 +1,6 @@
 -- How many ascending frames are below a bound: the place of the first that is not.
 use Prim.Native.Nat.{ℕ, zero, suc, _-_, _≤_, _<_}
-use mathlib.Core.Path.{_≡_, refl, sym, ap, _∙_}
+use mathlib.Core.Path.{_≡_, refl, ap, _∙_}
 use mathlib.Core.Bool.{Bool, true, false, not, cond}
 use mathlib.Core.List.{List, [], _∷_, _++_}
 use native.Mathlib.Omega.{arith}

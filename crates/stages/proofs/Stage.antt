@@ -1,35 +1,35 @@
 -- From counts and places to what they stand for: filler costs between edges, and the anchors ahead.
-use Prim.Native.Nat.{ℕ, zero, suc, _+_, _-_, _≤_, _<_, _^_, min}
+use Prim.Native.Nat.{ℕ, _+_, _≤_, _<_, _^_}
 use mathlib.Core.Path.{_≡_, refl, sym, ap, ap₂, _∙_}
-use mathlib.Core.List.{List, [], _∷_, map, tail}
+use mathlib.Core.List.{List, tail}
 use native.Mathlib.Omega.{arith}
-use lib.Dec.{ltb}
 use lib.ListN.{length, getD, drop, length-map}
 use lib.Ieee.{Float, neg}
 use Rattle.phrase.specs.declared.costs.Costs.{Costs}
 use Rattle.phrase.specs.Filler.{fillerCost}
-use Rattle.paths.specs.Frames.{Increasing, speechIn}
-use Rattle.paths.specs.Anchors.{Anchor, select, numbered, keptIn, heldIn}
+use Rattle.paths.specs.Frames.{speechIn}
+use Rattle.paths.specs.Anchors.{Anchor, keptIn, heldIn}
 use Rattle.paths.specs.LookAhead.{ahead, frameOr, rowOr, firstAhead, secondAhead, rowAhead}
+use Rattle.stages.specs.Room.{most, edges, room}
 use Rattle.stages.specs.Tables.{beyond}
 use Rattle.stages.specs.Listed.{padded, tableOf}
 use Rattle.stages.specs.Edges.{edge, speechBefore}
-use Rattle.stages.specs.Kept.{framesOf, rowsOf, room, Keeps}
+use Rattle.stages.specs.Kept.{framesOf, rowsOf}
 use Rattle.stages.specs.Places.{Climbs, countBelow, placeBefore}
-use Rattle.stages.specs.Filler.{Rises, Ascends, stretch, startAt, noCost, Priced}
+use Rattle.stages.specs.Filler.{Ascends, stretch, startAt, noCost, Priced}
 use Rattle.stages.specs.Ahead.{Within, LooksAhead}
 use Rattle.stages.specs.Parts.{Fit, FitList, costOf, Fills, Sees}
 use Rattle.stages.proofs.Listed.{table-at, table-same, length-table, length-padded}
 use Rattle.stages.proofs.Edges.{edge-in, edge-end, edges-climb}
 use Rattle.stages.proofs.Speech.{speech-split}
-use Rattle.stages.proofs.Places.{either, below-le, below-mono, climbs-padded, count-padded}
+use Rattle.stages.proofs.Places.{either, below-le, climbs-padded, count-padded}
 use Rattle.stages.proofs.Held.{Below, kept-below, kept-climbs, kept-few, held-count, held-on, all-below, ahead-drop, figure-from, tail-drop}
 
 -- What holds of the kept anchors of a list of the record.
 pub record Orderly (mask : List ℕ) (anchors : List Anchor) : Type 0 where
   pub below : Below (length mask) anchors
   pub climbs : Climbs 0 beyond (framesOf anchors)
-  pub few : length anchors ≤ 64
+  pub few : length anchors ≤ most
 
 pub kept-orderly : (mask : List ℕ) (row : ℕ) (frames : List ℕ) → length mask < 2 ^ 32 → FitList frames → Orderly mask (keptIn mask row frames)
 kept-orderly mask row frames h fit = record {
@@ -39,7 +39,7 @@ kept-orderly mask row frames h fit = record {
 }
 
 -- An array of frames, as the code of places asks it.
-module _ (mask : List ℕ) (anchors : List Anchor) (orderly : Orderly mask anchors) (frames : List ℕ) (framed : frames ≡ padded (framesOf anchors) room beyond) where
+module _ {mask : List ℕ} {anchors : List Anchor} {frames : List ℕ} (orderly : Orderly mask anchors) (framed : frames ≡ padded (framesOf anchors) room beyond) where
   pub array-climbs : Climbs 0 beyond frames
   array-climbs = rw framed (climbs-padded (framesOf anchors) room 0 beyond (orderly .climbs))
 
@@ -56,16 +56,21 @@ module _ (mask : List ℕ) (anchors : List Anchor) (orderly : Orderly mask ancho
   array-ends = omega (arith, place-le beyond (omega arith), array-long, orderly .few)
 
 -- The places of the boundaries of a stage, among the kept anchors of a list.
-module _ (mask : List ℕ) (anchors : List Anchor) (orderly : Orderly mask anchors) (frames : List ℕ) (framed : frames ≡ padded (framesOf anchors) room beyond)
-    (bounds : List ℕ) (fit : Fit mask bounds) (small : (j : ℕ) → getD bounds j 0 ≤ beyond)
-    (places : List ℕ) (placed : places ≡ tableOf (placeBefore frames bounds) (length bounds + 1) 65 0) where
+pub record Placing (mask : List ℕ) (anchors : List Anchor) (frames bounds places : List ℕ) : Type 0 where
+  pub orderly : Orderly mask anchors
+  pub framed : frames ≡ padded (framesOf anchors) room beyond
+  pub fit : Fit mask bounds
+  pub small : (j : ℕ) → getD bounds j 0 ≤ beyond
+  pub placed : places ≡ tableOf (placeBefore frames bounds) (length bounds + 1) edges 0
+
+module _ {mask : List ℕ} {anchors : List Anchor} {frames bounds places : List ℕ} (p : Placing mask anchors frames bounds places) where
   table-place : (j : ℕ) → j ≤ length bounds → getD places j 0 ≡ placeBefore frames bounds j
-  table-place j h = ap (λ (l : List ℕ). getD l j 0) placed ∙ table-at (placeBefore frames bounds) (length bounds + 1) 65 0 0 j (omega arith)
+  table-place j h = ap (λ (l : List ℕ). getD l j 0) (p .placed) ∙ table-at (placeBefore frames bounds) (length bounds + 1) edges 0 0 j (omega arith)
 
   place-at : (j : ℕ) → j < length bounds → getD places j 0 ≡ countBelow (framesOf anchors) (getD bounds j 0)
   place-at j h =
       table-place j (omega arith) ∙ ap (countBelow frames) (edge-in bounds beyond j h)
-      ∙ place-is mask anchors orderly frames framed (getD bounds j 0) (small j)
+      ∙ place-is (p .orderly) (p .framed) (getD bounds j 0) (p .small j)
 
   -- the count before an edge is that of the anchors held from the start up to it
   held-at : (j : ℕ) → j ≤ length bounds → getD places j 0 ≡ length (heldIn anchors 0 (edge bounds (length mask) j))
@@ -80,9 +85,9 @@ module _ (mask : List ℕ) (anchors : List Anchor) (orderly : Orderly mask ancho
       outside k =
           let e : j ≡ length bounds = omega arith in
           table-place j h ∙ ap (λ (n : ℕ). countBelow frames (edge bounds beyond n)) e ∙ ap (countBelow frames) (edge-end bounds beyond)
-          ∙ place-is mask anchors orderly frames framed beyond (omega arith)
-          ∙ all-below anchors (length mask) beyond (orderly .below) (omega (arith, fit .framed))
-          ∙ sym (all-below anchors (length mask) (length mask) (orderly .below) (omega arith))
+          ∙ place-is (p .orderly) (p .framed) beyond (omega arith)
+          ∙ all-below anchors (length mask) beyond (p .orderly .below) (omega (arith, p .fit .framed))
+          ∙ sym (all-below anchors (length mask) (length mask) (p .orderly .below) (omega arith))
           ∙ sym (held-count anchors (length mask))
           ∙ ap (λ (b : ℕ). length (heldIn anchors 0 b)) (sym (ap (λ (n : ℕ). edge bounds (length mask) n) e ∙ edge-end bounds (length mask)))
 
@@ -91,49 +96,49 @@ module _ (mask : List ℕ) (anchors : List Anchor) (orderly : Orderly mask ancho
       → getD places j 0 ≡ getD places i 0 + length (heldIn anchors (edge bounds (length mask) i) (edge bounds (length mask) j))
   held-between i j h k =
       held-at j k
-      ∙ held-on anchors (length mask) (edge bounds (length mask) i) (edge bounds (length mask) j) (orderly .below)
-      (edges-climb bounds (length mask) (fit .listed .ascending) i j h k)
+      ∙ held-on anchors (length mask) (edge bounds (length mask) i) (edge bounds (length mask) j) (p .orderly .below)
+      (edges-climb bounds (length mask) (p .fit .listed .ascending) i j h k)
       ∙ ap (λ (n : ℕ). n + length (heldIn anchors (edge bounds (length mask) i) (edge bounds (length mask) j))) (sym (held-at i (omega arith)))
 
-  places-long : length places ≡ 65
-  places-long = ap length placed ∙ length-table (placeBefore frames bounds) (length bounds + 1) 65 0 (omega (arith, fit .listed .short))
+  places-long : length places ≡ edges
+  places-long = ap length (p .placed) ∙ length-table (placeBefore frames bounds) (length bounds + 1) edges 0 (omega (arith, p .fit .listed .short))
 
   pub places-ascend : Ascends places (length bounds)
   places-ascend i j h k = record {
-    lower = omega (arith, places-long, fit .listed .short);
-    upper = omega (arith, places-long, fit .listed .short);
+    lower = omega (arith, places-long, p .fit .listed .short);
+    upper = omega (arith, places-long, p .fit .listed .short);
     rise = omega (arith, held-between i j h k);
   }
 
-  place-few : (j : ℕ) → j < length bounds → getD places j 0 ≤ 64
-  place-few j h = omega (arith, place-at j h, below-le (framesOf anchors) (getD bounds j 0), length-map anchors (λ (a : Anchor). a .frame), orderly .few)
+  place-few : (j : ℕ) → j < length bounds → getD places j 0 ≤ most
+  place-few j h = omega (arith, place-at j h, below-le (framesOf anchors) (getD bounds j 0), length-map anchors (λ (a : Anchor). a .frame), p .orderly .few)
 
   -- What the look ahead reads at the places.
-  module _ (rows : List ℕ) (rowed : rows ≡ padded (rowsOf anchors) room 0) where
+  module _ {rows : List ℕ} (rowed : rows ≡ padded (rowsOf anchors) room 0) where
     pub reads-within : Within frames rows places (length bounds)
     reads-within = record {
-      placed = omega (arith, places-long, fit .listed .short);
-      framed = λ j h. omega (arith, place-few j h, array-long mask anchors orderly frames framed);
+      placed = omega (arith, places-long, p .fit .listed .short);
+      framed = λ j h. omega (arith, place-few j h, array-long (p .orderly) (p .framed));
       rowed = λ j h.
-          omega (arith, place-few j h, ap length rowed, length-padded (rowsOf anchors) room 0 (omega (arith, length-map anchors (λ (a : Anchor). a .row), orderly .few)));
+          omega (arith, place-few j h, ap length rowed, length-padded (rowsOf anchors) room 0 (omega (arith, length-map anchors (λ (a : Anchor). a .row), p .orderly .few)));
     }
 
     from-place : (j : ℕ) → j < length bounds → drop (getD places j 0) anchors ≡ ahead anchors (getD bounds j 0)
-    from-place j h = ap (λ (n : ℕ). drop n anchors) (place-at j h) ∙ sym (ahead-drop anchors 0 beyond (getD bounds j 0) (orderly .climbs))
+    from-place j h = ap (λ (n : ℕ). drop n anchors) (place-at j h) ∙ sym (ahead-drop anchors 0 beyond (getD bounds j 0) (p .orderly .climbs))
 
     frame-from : (place : ℕ) → place < room → getD frames place 0 ≡ frameOr beyond (drop place anchors)
-    frame-from place h = ap (λ (l : List ℕ). getD l place 0) framed ∙ figure-from (λ a. a .frame) (frameOr beyond) (λ _ _. refl) anchors room place h
+    frame-from place h = ap (λ (l : List ℕ). getD l place 0) (p .framed) ∙ figure-from (λ a. a .frame) (frameOr beyond) (λ _ _. refl) anchors room place h
 
-    pub sees : (first second row : List ℕ) → LooksAhead frames rows places (length bounds) first second row → Sees anchors bounds first second row
+    pub sees : {first second row : List ℕ} → LooksAhead frames rows places (length bounds) first second row → Sees anchors bounds first second row
     unfolding firstAhead secondAhead rowAhead
-    sees first second row looks = record {
-      firsts = looks .firsts ∙ table-same (λ j. getD frames (getD places j 0) 0) (λ j. firstAhead beyond anchors (getD bounds j 0)) (length bounds) 64 0
+    sees looks = record {
+      firsts = looks .firsts ∙ table-same (λ j. getD frames (getD places j 0) 0) (λ j. firstAhead beyond anchors (getD bounds j 0)) (length bounds) most 0
           (λ j h. frame-from (getD places j 0) (omega (arith, place-few j h)) ∙ ap (frameOr beyond) (from-place j h));
-      seconds = looks .seconds ∙ table-same (λ j. getD frames (getD places j 0 + 1) 0) (λ j. secondAhead beyond anchors (getD bounds j 0)) (length bounds) 64 0
+      seconds = looks .seconds ∙ table-same (λ j. getD frames (getD places j 0 + 1) 0) (λ j. secondAhead beyond anchors (getD bounds j 0)) (length bounds) most 0
           (λ j h.
           frame-from (getD places j 0 + 1) (omega (arith, place-few j h))
           ∙ ap (frameOr beyond) (sym (tail-drop anchors (getD places j 0)) ∙ ap tail (from-place j h)));
-      ranks = looks .ranks ∙ table-same (λ j. getD rows (getD places j 0) 0) (λ j. rowAhead 0 anchors (getD bounds j 0)) (length bounds) 64 0
+      ranks = looks .ranks ∙ table-same (λ j. getD rows (getD places j 0) 0) (λ j. rowAhead 0 anchors (getD bounds j 0)) (length bounds) most 0
           (λ j h.
           ap (λ (l : List ℕ). getD l (getD places j 0) 0) rowed
           ∙ figure-from (λ a. a .row) (rowOr 0) (λ _ _. refl) anchors room (getD places j 0) (omega (arith, place-few j h))
@@ -146,30 +151,30 @@ module _ (mask : List ℕ) (anchors : List Anchor) (orderly : Orderly mask ancho
         arith,
         table-place (length bounds) (omega arith),
         edge-end bounds beyond,
-        place-le mask anchors orderly frames framed (edge bounds beyond (length bounds)) (omega (arith, edge-end bounds beyond)),
-        orderly .few,
+        place-le (p .orderly) (p .framed) (edge bounds beyond (length bounds)) (omega (arith, edge-end bounds beyond)),
+        p .orderly .few,
       )
 
   -- The filler costs by the counts.
-  module _ (speech : List ℕ) (counted : speech ≡ tableOf (speechBefore mask bounds) (length bounds + 1) 65 0) where
+  module _ {speech : List ℕ} (counted : speech ≡ tableOf (speechBefore mask bounds) (length bounds + 1) edges 0) where
     speech-at : (j : ℕ) → j ≤ length bounds → getD speech j 0 ≡ speechIn mask 0 (edge bounds (length mask) j)
-    speech-at j h = ap (λ (l : List ℕ). getD l j 0) counted ∙ table-at (speechBefore mask bounds) (length bounds + 1) 65 0 0 j (omega arith)
+    speech-at j h = ap (λ (l : List ℕ). getD l j 0) counted ∙ table-at (speechBefore mask bounds) (length bounds + 1) edges 0 0 j (omega arith)
 
     speech-between : (i j : ℕ) → i ≤ j → j ≤ length bounds
         → getD speech j 0 ≡ getD speech i 0 + speechIn mask (edge bounds (length mask) i) (edge bounds (length mask) j)
     speech-between i j h k =
         speech-at j k
         ∙ speech-split mask 0 (edge bounds (length mask) i) (edge bounds (length mask) j) (omega arith)
-        (edges-climb bounds (length mask) (fit .listed .ascending) i j h k)
+        (edges-climb bounds (length mask) (p .fit .listed .ascending) i j h k)
         ∙ ap (λ (n : ℕ). n + speechIn mask (edge bounds (length mask) i) (edge bounds (length mask) j)) (sym (speech-at i (omega arith)))
 
-    speech-long : length speech ≡ 65
-    speech-long = ap length counted ∙ length-table (speechBefore mask bounds) (length bounds + 1) 65 0 (omega (arith, fit .listed .short))
+    speech-long : length speech ≡ edges
+    speech-long = ap length counted ∙ length-table (speechBefore mask bounds) (length bounds + 1) edges 0 (omega (arith, p .fit .listed .short))
 
     pub speech-ascends : Ascends speech (length bounds)
     speech-ascends i j h k = record {
-      lower = omega (arith, speech-long, fit .listed .short);
-      upper = omega (arith, speech-long, fit .listed .short);
+      lower = omega (arith, speech-long, p .fit .listed .short);
+      upper = omega (arith, speech-long, p .fit .listed .short);
       rise = omega (arith, speech-between i j h k);
     }
 
@@ -178,17 +183,17 @@ module _ (mask : List ℕ) (anchors : List Anchor) (orderly : Orderly mask ancho
     unfolding costOf
     stretch-is costs i j h k = ap₂ (fillerCost costs) (omega (arith, speech-between i j h k)) (omega (arith, held-between i j h k))
 
-    pub fills : (costs : Costs) (start gap stop : List Float) → Priced costs speech places (length bounds) (length bounds) start gap stop
+    pub fills : {costs : Costs} {start gap stop : List Float} → Priced costs speech places (length bounds) (length bounds) start gap stop
         → Fills costs mask anchors bounds start gap stop
     unfolding costOf
-    fills costs start gap stop priced = record {
-      started = priced .started ∙ table-same (startAt costs speech places) (λ j. neg (costOf costs mask anchors 0 (edge bounds (length mask) j))) (length bounds) 64 noCost
+    fills {costs} priced = record {
+      started = priced .started ∙ table-same (startAt costs speech places) (λ j. neg (costOf costs mask anchors 0 (edge bounds (length mask) j))) (length bounds) most noCost
           (λ j h. ap₂ (λ (s n : ℕ). neg (fillerCost costs s n)) (speech-at j (omega arith)) (held-at j (omega arith)));
       gapped = priced .gapped
           ∙ table-same (λ j. stretch costs speech places j (j + 1)) (λ j. costOf costs mask anchors (edge bounds (length mask) j) (edge bounds (length mask) (j + 1)))
-          (length bounds) 64 noCost (λ j h. stretch-is costs j (j + 1) (omega arith) (omega arith));
+          (length bounds) most noCost (λ j h. stretch-is costs j (j + 1) (omega arith) (omega arith));
       stopped = priced .stopped
-          ∙ table-same (λ j. stretch costs speech places j (length bounds)) (λ j. costOf costs mask anchors (edge bounds (length mask) j) (length mask)) (length bounds) 64 noCost
+          ∙ table-same (λ j. stretch costs speech places j (length bounds)) (λ j. costOf costs mask anchors (edge bounds (length mask) j) (length mask)) (length bounds) most noCost
           (λ j h.
           stretch-is costs j (length bounds) (omega arith) (omega arith)
           ∙ ap (λ (b : ℕ). costOf costs mask anchors (edge bounds (length mask) j) b) (edge-end bounds (length mask)));

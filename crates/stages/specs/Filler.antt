@@ -1,11 +1,12 @@
 -- The filler costs between edges, from the counts before each edge.
-use Prim.Native.Nat.{ℕ, suc, _+_, _-_, _≤_, _<_}
+use Prim.Native.Nat.{ℕ, _+_, _-_, _≤_, _<_}
 use mathlib.Core.Path.{_≡_}
 use mathlib.Core.List.{List}
 use lib.ListN.{length, getD}
 use lib.Ieee.{Float, binary64, ofBits, neg}
 use Rattle.phrase.specs.declared.costs.Costs.{Costs}
 use Rattle.phrase.specs.Filler.{fillerCost}
+use Rattle.stages.specs.Room.{most}
 use Rattle.stages.specs.Listed.{tableOf}
 
 -- The count before edge j is not below that before edge i.
@@ -32,6 +33,6 @@ noCost = ofBits binary64 0
 
 -- the costs at the first `done` boundaries, where the edge `last` is the mask's end
 pub record Priced (costs : Costs) (speech nuclei : List ℕ) (last done : ℕ) (start gap stop : List Float) : Type 0 where
-  pub started : start ≡ tableOf (startAt costs speech nuclei) done 64 noCost
-  pub gapped : gap ≡ tableOf (λ j. stretch costs speech nuclei j (j + 1)) done 64 noCost
-  pub stopped : stop ≡ tableOf (λ j. stretch costs speech nuclei j last) done 64 noCost
+  pub started : start ≡ tableOf (startAt costs speech nuclei) done most noCost
+  pub gapped : gap ≡ tableOf (λ j. stretch costs speech nuclei j (j + 1)) done most noCost
+  pub stopped : stop ≡ tableOf (λ j. stretch costs speech nuclei j last) done most noCost

@@ -4,6 +4,7 @@ use mathlib.Core.Path.{_≡_}
 use mathlib.Core.List.{List, map}
 use lib.ListN.{length}
 use Rattle.paths.specs.Anchors.{Anchor}
+use Rattle.stages.specs.Room.{room}
 use Rattle.stages.specs.Listed.{padded}
 use Rattle.stages.specs.Tables.{beyond}
 
@@ -12,10 +13,6 @@ framesOf anchors = map (λ anchor. anchor .frame) anchors
 
 abbrev pub rowsOf : List Anchor → List ℕ
 rowsOf anchors = map (λ anchor. anchor .row) anchors
-
--- room for the anchors of a stage, and two frames beyond them
-abbrev pub room : ℕ
-room = 66
 
 pub record Keeps (anchors : List Anchor) (count : ℕ) (frames rows : List ℕ) : Type 0 where
   pub counted : count ≡ length anchors

@@ -9,6 +9,7 @@ use Rattle.phrase.specs.Phrase.{Phrase, Stage}
 use Rattle.paths.specs.Anchors.{keptIn}
 use Rattle.paths.specs.Units.{shortestUnit, longestUnit}
 use Rattle.paths.specs.LookAhead.{firstAhead, secondAhead, rowAhead}
+use Rattle.stages.specs.Room.{most}
 use Rattle.stages.specs.declared.tables.StageTables.{StageTables}
 use Rattle.stages.specs.Tables.{beyond, Tabled}
 use Rattle.stages.specs.Listed.{tableOf}
@@ -36,13 +37,13 @@ tablesOf mask nuclei anchors firstRow bounds duration costs =
     let kept = keptIn mask firstRow anchors in
     record {
       size = size;
-      bounds = tableOf (λ j. getD bounds j 0) size 64 0;
-      start = tableOf (λ j. neg (costOf costs mask inserted 0 (edge bounds end j))) size 64 noCost;
-      gap = tableOf (λ j. costOf costs mask inserted (edge bounds end j) (edge bounds end (j + 1))) size 64 noCost;
-      stop = tableOf (λ j. costOf costs mask inserted (edge bounds end j) end) size 64 noCost;
-      first = tableOf (λ j. firstAhead beyond kept (getD bounds j 0)) size 64 0;
-      second = tableOf (λ j. secondAhead beyond kept (getD bounds j 0)) size 64 0;
-      row = tableOf (λ j. rowAhead 0 kept (getD bounds j 0)) size 64 0;
+      bounds = tableOf (λ j. getD bounds j 0) size most 0;
+      start = tableOf (λ j. neg (costOf costs mask inserted 0 (edge bounds end j))) size most noCost;
+      gap = tableOf (λ j. costOf costs mask inserted (edge bounds end j) (edge bounds end (j + 1))) size most noCost;
+      stop = tableOf (λ j. costOf costs mask inserted (edge bounds end j) end) size most noCost;
+      first = tableOf (λ j. firstAhead beyond kept (getD bounds j 0)) size most 0;
+      second = tableOf (λ j. secondAhead beyond kept (getD bounds j 0)) size most 0;
+      row = tableOf (λ j. rowAhead 0 kept (getD bounds j 0)) size most 0;
       duration = duration;
     }
 

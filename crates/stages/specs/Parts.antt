@@ -9,6 +9,7 @@ use Rattle.phrase.specs.Filler.{fillerCost}
 use Rattle.paths.specs.Frames.{Increasing, speechIn}
 use Rattle.paths.specs.Anchors.{Anchor, heldIn}
 use Rattle.paths.specs.LookAhead.{firstAhead, secondAhead, rowAhead}
+use Rattle.stages.specs.Room.{most}
 use Rattle.stages.specs.Tables.{beyond}
 use Rattle.stages.specs.Listed.{tableOf}
 use Rattle.stages.specs.Edges.{edge}
@@ -16,7 +17,7 @@ use Rattle.stages.specs.Filler.{noCost}
 
 -- a list of a record: of bounded length, and in order
 pub record FitList (frames : List ℕ) : Type 0 where
-  pub short : length frames ≤ 64
+  pub short : length frames ≤ most
   pub ascending : Increasing frames
 
 pub record Fit (mask bounds : List ℕ) : Type 0 where
@@ -29,12 +30,12 @@ costOf costs mask nuclei from to = fillerCost costs (speechIn mask from to) (len
 
 -- The filler costs: of the start (negated), of the gap to the next edge, of the end.
 pub record Fills (costs : Costs) (mask : List ℕ) (nuclei : List Anchor) (bounds : List ℕ) (start gap stop : List Float) : Type 0 where
-  pub started : start ≡ tableOf (λ j. neg (costOf costs mask nuclei 0 (edge bounds (length mask) j))) (length bounds) 64 noCost
-  pub gapped : gap ≡ tableOf (λ j. costOf costs mask nuclei (edge bounds (length mask) j) (edge bounds (length mask) (j + 1))) (length bounds) 64 noCost
-  pub stopped : stop ≡ tableOf (λ j. costOf costs mask nuclei (edge bounds (length mask) j) (length mask)) (length bounds) 64 noCost
+  pub started : start ≡ tableOf (λ j. neg (costOf costs mask nuclei 0 (edge bounds (length mask) j))) (length bounds) most noCost
+  pub gapped : gap ≡ tableOf (λ j. costOf costs mask nuclei (edge bounds (length mask) j) (edge bounds (length mask) (j + 1))) (length bounds) most noCost
+  pub stopped : stop ≡ tableOf (λ j. costOf costs mask nuclei (edge bounds (length mask) j) (length mask)) (length bounds) most noCost
 
 -- The frames of the first two kept anchors at or after each boundary, and the first one's row.
 pub record Sees (anchors : List Anchor) (bounds : List ℕ) (first second row : List ℕ) : Type 0 where
-  pub firsts : first ≡ tableOf (λ j. firstAhead beyond anchors (getD bounds j 0)) (length bounds) 64 0
-  pub seconds : second ≡ tableOf (λ j. secondAhead beyond anchors (getD bounds j 0)) (length bounds) 64 0
-  pub ranks : row ≡ tableOf (λ j. rowAhead 0 anchors (getD bounds j 0)) (length bounds) 64 0
+  pub firsts : first ≡ tableOf (λ j. firstAhead beyond anchors (getD bounds j 0)) (length bounds) most 0
+  pub seconds : second ≡ tableOf (λ j. secondAhead beyond anchors (getD bounds j 0)) (length bounds) most 0
+  pub ranks : row ≡ tableOf (λ j. rowAhead 0 anchors (getD bounds j 0)) (length bounds) most 0

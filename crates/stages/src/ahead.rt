@@ -5,6 +5,7 @@ use crate::anchors::places;
 ghost use mathlib.Core.Path.{_≡_};
 ghost use Prim.Native.Nat.{_+_, _<_, _≤_, _^_};
 ghost use lib.ListN.{length, getD};
+ghost use Rattle.stages.specs.Room.{most};
 ghost use Rattle.stages.specs.Listed.{tableOf};
 ghost use Rattle.paths.specs.Anchors.{keptIn};
 ghost use Rattle.stages.specs.Parts.{Fit, FitList, Sees};
@@ -19,7 +20,7 @@ pub struct Ahead {
 
 // Those of `size` boundaries, from the place of each among the kept anchors.
 fn look_ahead(frames: &[u32], rows: &[u32], places: &[usize], size: usize) -> Ahead
-    requires { ⌜ (size ≤ 64) × Within (now frames) (now rows) (now places) size ⌝ }
+    requires { ⌜ (size ≤ most) × Within (now frames) (now rows) (now places) size ⌝ }
     ensures { λ r. ⌜ LooksAhead (now (frames .entry)) (now (rows .entry)) (now (places .entry)) size (r .first) (r .second) (r .row) ⌝ }
 {
     let mut first = [0u32; 64];
@@ -38,8 +39,8 @@ fn look_ahead(frames: &[u32], rows: &[u32], places: &[usize], size: usize) -> Ah
 
 // The boundaries in an array.
 pub fn copied(bounds: &[u32]) -> [u32; 64]
-    requires { ⌜ length (now bounds) ≤ 64 ⌝ }
-    ensures { λ r. ⌜ r ≡ tableOf (λ j. getD (now (bounds .entry)) j 0) (length (now (bounds .entry))) 64 0 ⌝ }
+    requires { ⌜ length (now bounds) ≤ most ⌝ }
+    ensures { λ r. ⌜ r ≡ tableOf (λ j. getD (now (bounds .entry)) j 0) (length (now (bounds .entry))) most 0 ⌝ }
 {
     let mut copy = [0u32; 64];
     let mut j = 0;

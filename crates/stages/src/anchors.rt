@@ -6,6 +6,7 @@ ghost use lib.ListN.{length};
 ghost use Rattle.paths.specs.Frames.{Increasing, within as isWithin};
 ghost use Rattle.paths.specs.Anchors.{keptIn};
 ghost use Rattle.paths.specs.Passes.{nonEmpty};
+ghost use Rattle.stages.specs.Room.{most, edges};
 ghost use Rattle.stages.specs.Listed.{tableOf};
 ghost use Rattle.stages.specs.Tables.{beyond};
 ghost use Rattle.stages.specs.Kept.{Keeps};
@@ -35,7 +36,7 @@ pub fn within(mask: &[u8], frame: u32) -> bool
 
 // The anchors within the mask. A dropped one leaves its row unused.
 pub fn kept_anchors(mask: &[u8], anchors: &[u32], first_row: u32) -> Kept
-    requires { ⌜ (length (now anchors) ≤ 64) × («first_row» + length (now anchors) < 2 ^ 32) ⌝ }
+    requires { ⌜ (length (now anchors) ≤ most) × («first_row» + length (now anchors) < 2 ^ 32) ⌝ }
     ensures { λ r. ⌜ Keeps (keptIn (now (mask .entry)) «first_row» (now (anchors .entry))) (r .count) (r .frames) (r .rows) ⌝ }
 {
     let mut frames = [BEYOND; 66];
@@ -60,7 +61,7 @@ pub fn kept_anchors(mask: &[u8], anchors: &[u32], first_row: u32) -> Kept
 
 // Whether a nucleus is within the mask.
 pub fn has_nucleus(mask: &[u8], nuclei: &[u32]) -> bool
-    requires { ⌜ length (now nuclei) ≤ 64 ⌝ }
+    requires { ⌜ length (now nuclei) ≤ most ⌝ }
     ensures { λ r. ⌜ r ≡ nonEmpty (keptIn (now (mask .entry)) 0 (now (nuclei .entry))) ⌝ }
 {
     let kept = kept_anchors(mask, nuclei, 0);
@@ -81,8 +82,8 @@ fn advance(frames: &[u32], from: usize, bound: u32) -> usize
 
 // For each boundary, how many of the frames are below it; at last how many there are.
 pub fn places(frames: &[u32], bounds: &[u32]) -> [usize; 65]
-    requires { ⌜ Climbs 0 beyond (now frames) × (countBelow (now frames) beyond < length (now frames)) × (length (now bounds) ≤ 64) × Increasing (now bounds) ⌝ }
-    ensures { λ r. ⌜ r ≡ tableOf (placeBefore (now (frames .entry)) (now (bounds .entry))) (length (now (bounds .entry)) + 1) 65 0 ⌝ }
+    requires { ⌜ Climbs 0 beyond (now frames) × (countBelow (now frames) beyond < length (now frames)) × (length (now bounds) ≤ most) × Increasing (now bounds) ⌝ }
+    ensures { λ r. ⌜ r ≡ tableOf (placeBefore (now (frames .entry)) (now (bounds .entry))) (length (now (bounds .entry)) + 1) edges 0 ⌝ }
 {
     let mut places = [0usize; 65];
     let mut place = 0;

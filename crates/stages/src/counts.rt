@@ -4,6 +4,7 @@ ghost use mathlib.Core.Path.{_≡_};
 ghost use Prim.Native.Nat.{_+_, _<_, _≤_, _^_, min};
 ghost use lib.ListN.{length};
 ghost use Rattle.paths.specs.Frames.{Increasing, weight as weightOf, speechIn};
+ghost use Rattle.stages.specs.Room.{most, edges};
 ghost use Rattle.stages.specs.Listed.{tableOf};
 ghost use Rattle.stages.specs.Edges.{speechBefore};
 
@@ -39,8 +40,8 @@ pub fn speech_in(mask: &[u8], from: u32, to: u32) -> u32
 
 // How many speech frames there are before each boundary, and at last before the mask's end.
 pub fn speech_before(mask: &[u8], bounds: &[u32]) -> [u32; 65]
-    requires { ⌜ (length (now mask) < 2 ^ 32) × (length (now bounds) ≤ 64) × Increasing (now bounds) ⌝ }
-    ensures { λ r. ⌜ r ≡ tableOf (speechBefore (now (mask .entry)) (now (bounds .entry))) (length (now (bounds .entry)) + 1) 65 0 ⌝ }
+    requires { ⌜ (length (now mask) < 2 ^ 32) × (length (now bounds) ≤ most) × Increasing (now bounds) ⌝ }
+    ensures { λ r. ⌜ r ≡ tableOf (speechBefore (now (mask .entry)) (now (bounds .entry))) (length (now (bounds .entry)) + 1) edges 0 ⌝ }
 {
     let end = mask.len() as u32;
     let mut counts = [0u32; 65];

@@ -8,6 +8,7 @@ ghost use mathlib.Core.Path.{_≡_};
 ghost use Prim.Native.Nat.{_<_, _≤_, _^_};
 ghost use lib.ListN.{getD};
 ghost use Rattle.paths.specs.Anchors.{keptIn};
+ghost use Rattle.stages.specs.Room.{most};
 ghost use Rattle.stages.specs.Parts.{Fit, FitList, Fills};
 ghost use Rattle.stages.specs.Filler.{Rises, Ascends, stretch, Priced};
 
@@ -28,7 +29,7 @@ fn between(speech: &[u32], nuclei: &[usize], i: usize, j: usize, costs: Costs) -
 
 // The costs at `size` boundaries, which the last edge follows.
 fn filler_costs(speech: &[u32], nuclei: &[usize], size: usize, costs: Costs) -> Filler
-    requires { ⌜ (size ≤ 64) × Ascends (now speech) size × Ascends (now nuclei) size × (getD (now nuclei) size 0 < 2 ^ 32) ⌝ }
+    requires { ⌜ (size ≤ most) × Ascends (now speech) size × Ascends (now nuclei) size × (getD (now nuclei) size 0 < 2 ^ 32) ⌝ }
     ensures { λ r. ⌜ Priced costs (now (speech .entry)) (now (nuclei .entry)) size size (r .start) (r .gap) (r .stop) ⌝ }
 {
     let mut start = [0.0f64; 64];

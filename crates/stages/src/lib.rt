@@ -1,7 +1,7 @@
 // The tables of a stage that the search reads, made once for a record and stage, after `Stage` and `Filler` of closed.rs.
 
-pub mod ahead;
+mod ahead;
 pub mod anchors;
-pub mod counts;
-pub mod filler;
+mod counts;
+mod filler;
 pub mod tables;

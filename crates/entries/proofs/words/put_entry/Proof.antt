@@ -1,7 +1,7 @@
 -- `put_entry`: the head, the units and the zeros after them are the words of the entry.
 use borrow.Author.Needs.{needs}
 use denote.Ref.{now}
-use Rattle.entries.specs.Placing.{mostUnits, entryFrom}
+use Rattle.entries.specs.EntryFrom.{mostUnits, entryFrom}
 use Rattle.entries.proofs.EntryWords.{length-unitsFrom, stored}
 use Rattle.entries.proofs.words.put_entry.Statement.{statement}
 use Rattle.entries.proofs.words.put_entry.Tie as tie
@@ -39,7 +39,7 @@ returns c total =
     let a = start .args in
     let e = entryFrom (a .head) (now (a .starts)) (now (a .ends)) (now (a .rows)) total in
     let counted = length-unitsFrom (now (a .starts)) (now (a .ends)) (now (a .rows)) (a .head .units) 0 in
-    stored mostUnits e (now (a .out)) (a .at) (a .head .units) counted (start .pre .1 .0 .0) (start .pre .0)
+    stored mostUnits e (now (a .out)) (a .at) (a .head .units) counted (start .pre .1 .few) (start .pre .0)
     (c .before .before .before .before .before .before .before .before .before .before .put-head .ensures) (c .before .before .before .before .before .before .put-units .ensures) (c .before .before .put-zeros .ensures)
 
 pub put-entry-spec : {M : Type 1} → statement M

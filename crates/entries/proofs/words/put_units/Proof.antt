@@ -1,12 +1,12 @@
 -- `put_units`: what is left to store is what was to be stored. Each turn stores one unit's three words.
 use Prim.Native.Nat.{_-_, _≤_, _+_, _*_}
-use mathlib.Core.Path.{_≡_, refl, sym, ap, _∙_}
+use mathlib.Core.Path.{_≡_, refl, sym, _∙_}
 use native.Mathlib.Nat.{add-zero, sub-zero}
 use native.Mathlib.Omega.{arith}
 use lib.ListN.{length, length-set}
 use lib.Seq.{sets}
 use Rattle.entries.specs.Words.{unitWords}
-use Rattle.entries.specs.Placing.{unitsFrom}
+use Rattle.entries.specs.EntryFrom.{unitsFrom}
 use Rattle.entries.proofs.Stores.{units-turn, units-end}
 use Rattle.entries.proofs.words.put_units.Statement.{statement}
 use Rattle.entries.proofs.words.put_units.Tie as tie

@@ -1,6 +1,6 @@
 -- `put_zeros`: what is left to store is what was to be stored. Each turn stores one word.
-use Prim.Native.Nat.{_-_, _≤_, _+_}
-use mathlib.Core.Path.{_≡_, refl, sym, ap, _∙_}
+use Prim.Native.Nat.{_-_, _≤_}
+use mathlib.Core.Path.{_≡_, refl, sym, _∙_}
 use native.Mathlib.Omega.{arith}
 use lib.ListN.{length, replicate, length-set}
 use lib.Seq.{sets}

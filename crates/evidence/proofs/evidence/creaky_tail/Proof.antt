@@ -1,8 +1,11 @@
 -- `creaky_tail`: the tests are those of `creakyTailOf` in its order, and then the tail after the last pitched frame.
-use mathlib.Core.Path.{ap}
+use mathlib.Core.Path.{_≡_, sym, ap, _∙_}
+use mathlib.Core.Bool.{Bool}
 use borrow.Author.Needs.{needs}
-use Rattle.evidence.specs.Outcome.{accepted}
-use Rattle.evidence.specs.CreakyTail.{creakyTailOf}
+use Rattle.evidence.specs.Outcome.{Outcome, accepted}
+use Rattle.evidence.specs.CreakyTail.{creakyTailOf, tailAfter, lastPitched}
+use Rattle.evidence.specs.declared.frames.Nearest.{Nearest}
+use Rattle.evidence.specs.declared.frames.Nearest.the-variants.{None, At}
 use Rattle.evidence.proofs.Checks.{taken, passed}
 use Rattle.evidence.proofs.evidence.creaky_tail.Statement.{statement}
 use Rattle.evidence.proofs.evidence.creaky_tail.Tie as tie
@@ -26,6 +29,26 @@ returns-2 c =
     passed _ (c .before .before .before .before .if1 .left)
     (taken _ (rw (c .before .before .before .unfit .ensures, c .before .before .unfit2 .ensures, c .before .beyond .ensures) at (c .if2 .taken)))
 
+-- what is asked, and the answer where no test refuses
+abbrev entry : tie.Else2 → tie.Start
+entry c = c .before .before .before .before .before .before .before
+
+abbrev asked : tie.Else2 → Outcome Bool
+asked c =
+    let args = entry c .args in
+    creakyTailOf (args .start) (args .end) (args .next) (args .pitched .now) (args .vowel-speech .now)
+
+abbrev answer : tie.Else2 → Nearest → Bool
+answer c last = tailAfter last (entry c .args .next) (entry c .args .pitched .now) (entry c .args .vowel-speech .now)
+
+accepts : (c : tie.Else2) (last : Nearest)
+    → last ≡ lastPitched (entry c .args .pitched .now) (entry c .args .start) (entry c .args .end)
+    → accepted (answer c last) ≡ asked c
+unfolding creakyTailOf
+accepts c last e =
+    let fit = rw (c .before .before .before .unfit .ensures, c .before .before .unfit2 .ensures, c .before .beyond .ensures) at (c .if2 .left) in
+    passed _ (c .before .before .before .before .if1 .left) (passed _ fit (ap (λ (f : Nearest). accepted (answer c f)) e))
+
 last-pitched-requires : tie.Need-last-pitched-requires
 last-pitched-requires c κs = search needs
 
@@ -45,18 +68,12 @@ tail-from-requires : tie.Need-tail-from-requires
 tail-from-requires c κs = search needs
 
 returns-3 : tie.Need-returns-3
-unfolding creakyTailOf
-returns-3 c =
-    passed _ (c .before .before .before .before .before .before .before .if1 .left)
-    (passed _ (rw (c .before .before .before .before .before .before .unfit .ensures, c .before .before .before .before .before .unfit2 .ensures, c .before .before .before .before .beyond .ensures) at (c .before .before .before .if2 .left))
-    (rw (← c .before .before .last-pitched .ensures, c .enum-told .given .1)))
+returns-3 c = accepts (c .before .before .before) None (sym (c .enum-told .given .1) ∙ c .before .before .last-pitched .ensures)
 
 returns-4 : tie.Need-returns-4
-unfolding creakyTailOf
 returns-4 c =
-    passed _ (c .before .before .before .before .before .before .before .before .before .if1 .left)
-    (passed _ (rw (c .before .before .before .before .before .before .before .before .unfit .ensures, c .before .before .before .before .before .before .before .unfit2 .ensures, c .before .before .before .before .before .before .beyond .ensures) at (c .before .before .before .before .before .if2 .left))
-    (rw (← c .before .before .before .before .last-pitched .ensures, c .before .before .last .given .1) (ap accepted (c .tail-from .ensures))))
+    ap accepted (c .tail-from .ensures)
+    ∙ accepts (c .before .before .before .before .before) (At _) (sym (c .before .before .last .given .1) ∙ c .before .before .before .before .last-pitched .ensures)
 
 pub creaky-tail-spec : {M : Type 1} → statement M
 creaky-tail-spec =

@@ -1,8 +1,10 @@
 -- `span_end`: the right neighbour lies above the frame, and each arm is its case of the definition.
-use Prim.Native.Nat.{_<_}
-use mathlib.Core.Path.{sym, _∙_}
+use Prim.Native.Nat.{_+_}
+use mathlib.Core.Path.{_≡_, sym, _∙_}
 use native.Mathlib.Omega.{arith}
 use borrow.Author.Needs.{needs}
+use Rattle.evidence.specs.Frames.{lowestFrom}
+use Rattle.evidence.specs.declared.frames.Nearest.the-variants.{At}
 use Rattle.evidence.proofs.Neighbours.{lowest}
 use Rattle.evidence.proofs.Cuts.{end-whole, end-cut, end-kept}
 use Rattle.evidence.proofs.evidence.span_end.Statement.{statement}
@@ -26,22 +28,32 @@ enum-known-right c = search needs
 uncut-start-requires : tie.Need-uncut-start-requires
 uncut-start-requires c κs = search needs
 
+-- the right neighbour lies above the frame
+abbrev entry : tie.After-known-told → tie.Start
+entry c = c .before .before .before .before .before .before .before
+
+there : (c : tie.After-known-told) → lowestFrom (entry c .args .frame + 1) (entry c .args .frames .now) ≡ At (c .before .right .given .0 .0)
+there c = sym (c .before .before .before .lowest-from .ensures) ∙ c .before .right .given .1
+
 cut-requires : tie.Need-cut-requires
-cut-requires c κs =
-    let right = lowest _ _ (sym (c .before .before .before .before .before .lowest-from .ensures) ∙ c .before .before .before .right .given .1) in
-    omega arith
+cut-requires c κs = omega (arith, lowest _ _ (there (c .before .before)) .from)
 
 returns : tie.Need-returns
-returns c = c .before .before .before .uncut-end .ensures ∙ sym (end-whole _ _ _ _ (sym (c .before .before .lowest-from .ensures) ∙ c .enum-told .given .1))
+returns c =
+    let none = sym (c .before .before .lowest-from .ensures) ∙ c .enum-told .given .1 in
+    c .before .before .before .uncut-end .ensures ∙ sym (end-whole _ _ _ _ none)
 
 returns-2 : tie.Need-returns-2
 returns-2 c =
-    c .cut .ensures
-    ∙ sym (end-cut _ _ _ _ _ _ _ (c .before .before .uncut-start .ensures) (c .before .before .before .before .before .before .before .uncut-end .ensures) (sym (c .before .before .before .before .before .before .lowest-from .ensures) ∙ c .before .before .before .before .right .given .1) (c .before .if1 .taken))
+    let s = c .before .before .uncut-start .ensures in
+    let e = c .before .before .before .before .before .before .before .uncut-end .ensures in
+    c .cut .ensures ∙ sym (end-cut _ _ _ _ _ _ _ s e (there (c .before .before .before)) (c .before .if1 .taken))
 
 returns-3 : tie.Need-returns-3
 returns-3 c =
-    sym (end-kept _ _ _ _ _ _ _ (c .before .uncut-start .ensures) (c .before .before .before .before .before .before .uncut-end .ensures) (sym (c .before .before .before .before .before .lowest-from .ensures) ∙ c .before .before .before .right .given .1) (c .if1 .left))
+    let s = c .before .uncut-start .ensures in
+    let e = c .before .before .before .before .before .before .uncut-end .ensures in
+    sym (end-kept _ _ _ _ _ _ _ s e (there (c .before .before)) (c .if1 .left))
 
 pub span-end-spec : {M : Type 1} → statement M
 span-end-spec =

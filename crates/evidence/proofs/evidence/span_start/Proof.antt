@@ -1,8 +1,9 @@
 -- `span_start`: the left neighbour lies below the frame, and each arm is its case of the definition.
-use Prim.Native.Nat.{_<_}
-use mathlib.Core.Path.{sym, _∙_}
+use mathlib.Core.Path.{_≡_, sym, _∙_}
 use native.Mathlib.Omega.{arith}
 use borrow.Author.Needs.{needs}
+use Rattle.evidence.specs.Frames.{highestBelow}
+use Rattle.evidence.specs.declared.frames.Nearest.the-variants.{At}
 use Rattle.evidence.proofs.Neighbours.{highest}
 use Rattle.evidence.proofs.Cuts.{start-whole, start-cut, start-kept}
 use Rattle.evidence.proofs.evidence.span_start.Statement.{statement}
@@ -20,27 +21,35 @@ enum-told c = search needs
 enum-known-left : tie.Need-enum-known-left
 enum-known-left c = search needs
 
+-- the left neighbour lies below the frame
+abbrev entry : tie.After-known-told → tie.Start
+entry c = c .before .before .before .before .before .before .before
+
+there : (c : tie.After-known-told) → highestBelow (entry c .args .frame) (entry c .args .frames .now) ≡ At (c .before .left .given .0 .0)
+there c = sym (c .before .before .before .highest-below .ensures) ∙ c .before .left .given .1
+
 uncut-end-requires : tie.Need-uncut-end-requires
-uncut-end-requires c κs =
-    let left = highest _ _ (sym (c .before .before .before .highest-below .ensures) ∙ c .before .left .given .1) in
-    omega arith
+uncut-end-requires c κs = omega (arith, highest _ _ (there c) .below)
 
 cut-requires : tie.Need-cut-requires
-cut-requires c κs =
-    let left = highest _ _ (sym (c .before .before .before .before .before .highest-below .ensures) ∙ c .before .before .before .left .given .1) in
-    omega arith
+cut-requires c κs = omega (arith, highest _ _ (there (c .before .before)) .below)
 
 returns : tie.Need-returns
-returns c = c .before .before .before .uncut-start .ensures ∙ sym (start-whole _ _ _ _ (sym (c .before .before .highest-below .ensures) ∙ c .enum-told .given .1))
+returns c =
+    let none = sym (c .before .before .highest-below .ensures) ∙ c .enum-told .given .1 in
+    c .before .before .before .uncut-start .ensures ∙ sym (start-whole _ _ _ _ none)
 
 returns-2 : tie.Need-returns-2
 returns-2 c =
-    c .cut .ensures
-    ∙ sym (start-cut _ _ _ _ _ _ _ (c .before .before .before .before .before .before .before .uncut-start .ensures) (c .before .before .uncut-end .ensures) (sym (c .before .before .before .before .before .before .highest-below .ensures) ∙ c .before .before .before .before .left .given .1) (c .before .if1 .taken))
+    let s = c .before .before .before .before .before .before .before .uncut-start .ensures in
+    let e = c .before .before .uncut-end .ensures in
+    c .cut .ensures ∙ sym (start-cut _ _ _ _ _ _ _ s e (there (c .before .before .before)) (c .before .if1 .taken))
 
 returns-3 : tie.Need-returns-3
 returns-3 c =
-    sym (start-kept _ _ _ _ _ _ _ (c .before .before .before .before .before .before .uncut-start .ensures) (c .before .uncut-end .ensures) (sym (c .before .before .before .before .before .highest-below .ensures) ∙ c .before .before .before .left .given .1) (c .if1 .left))
+    let s = c .before .before .before .before .before .before .uncut-start .ensures in
+    let e = c .before .uncut-end .ensures in
+    sym (start-kept _ _ _ _ _ _ _ s e (there (c .before .before)) (c .if1 .left))
 
 pub span-start-spec : {M : Type 1} → statement M
 span-start-spec =

@@ -1,5 +1,4 @@
 -- `uncut_start`: each arm is its case of the definition.
-use mathlib.Core.Path.{sym, _∙_}
 use native.Mathlib.Omega.{arith}
 use borrow.Author.Needs.{needs}
 use Rattle.evidence.proofs.evidence.uncut_start.Statement.{statement}

@@ -1,11 +1,12 @@
 -- `write_spans`: the words written and those of the spans that the walk has left are all, and the cells after them are untouched.
 use Prim.Native.Nat.{ℕ, _+_, _-_, _*_, _≤_}
-use mathlib.Core.Path.{_≡_, refl, sym, ap, subst, _∙_}
+use mathlib.Core.Path.{_≡_, sym, ap, _∙_}
 use mathlib.Core.List.{List, [], _∷_, map}
 use native.Mathlib.Omega.{arith}
-use lib.ListN.{length, set, length-set}
+use lib.ListN.{length, length-set}
 use borrow.Author.Needs.{needs}
 use Rattle.evidence.specs.Frames.{lowestFrom}
+use Rattle.evidence.specs.Outcome.{lastFrame}
 use Rattle.evidence.specs.Spans.{spanOf, spansOf, wordsOf, Writable}
 use Rattle.evidence.specs.declared.evidence.Span.{Span}
 use Rattle.evidence.specs.declared.frames.Nearest.the-variants.{None, At}
@@ -34,7 +35,8 @@ module _ (nuclei bounds : List ℕ) (lo hi : ℕ) where
       rw (walk-begins nuclei) (none-written (wordsOf (spansOf nuclei bounds lo hi)) out)
 
   -- the walk's next frame is the next span
-  next-span : (count from : ℕ) {f : ℕ} (span : Span) → count + countFrom from nuclei ≤ length nuclei → lowestFrom from nuclei ≡ At f → span ≡ spanOf nuclei bounds lo hi f
+  next-span : (count from : ℕ) {f : ℕ} (span : Span) → count + countFrom from nuclei ≤ length nuclei
+      → lowestFrom from nuclei ≡ At f → span ≡ spanOf nuclei bounds lo hi f
       → ahead nuclei bounds lo hi count from ≡ span .start ∷ span .end ∷ ahead nuclei bounds lo hi (count + 1) (f + 1)
   unfolding wordsOf
   next-span count from {f} span enough there is =
@@ -52,7 +54,11 @@ two-on : (n : ℕ) → 2 * (n + 1) ≡ 2 * n + 2
 two-on n = omega arith
 
 loop-holds : tie.Need-loop-holds Inv-loop μ-loop
-loop-holds c = (let enough = count-le 0 (c .before .before .before .args .nuclei .now) in omega arith, begins (c .before .before .before .args .nuclei .now) (c .before .before .before .args .bounds .now) (c .before .before .before .args .lo-edge) (c .before .before .before .args .hi-edge) _)
+loop-holds c =
+    let args = c .before .before .before .args in (
+      let enough = count-le 0 (args .nuclei .now) in omega arith,
+      begins (args .nuclei .now) (args .bounds .now) (args .lo-edge) (args .hi-edge) _,
+    )
 
 lowest-from-requires : tie.Need-lowest-from-requires Inv-loop μ-loop
 lowest-from-requires c κs = search needs
@@ -68,22 +74,52 @@ same-length c = c .before .before .before .loop .inv .1 .same
 
 returns : tie.Need-returns Inv-loop μ-loop
 returns c =
-    let none = none-ahead _ (c .before .before .before .before .before .before .before .args .bounds .now) (c .before .before .before .before .before .before .before .args .lo-edge) (c .before .before .before .before .before .before .before .args .hi-edge) (c .before .before .before .loop .count) _ (sym (c .before .before .lowest-from .ensures) ∙ c .enum-told .given .1) in
-    all-written (rw none at (c .before .before .before .loop .inv .1))
+    let args = c .before .before .before .before .before .before .before .args in
+    let head = c .before .before .before .loop in
+    let last = sym (c .before .before .lowest-from .ensures) ∙ c .enum-told .given .1 in
+    let none = none-ahead (args .nuclei .now) (args .bounds .now) (args .lo-edge) (args .hi-edge) (head .count) (head .from) last in
+    all-written (rw none at (head .inv .1))
+
+-- a turn that has found a frame: the function's entry, the loop's head, and the frame
+abbrev Turn : Type 0
+Turn = tie.After-known-told Inv-loop μ-loop
+
+abbrev entry : Turn → tie.Start Inv-loop μ-loop
+entry c = c .before .before .before .before .before .before .before .before
+
+abbrev head : Turn → tie.At-loop Inv-loop μ-loop
+head c = c .before .before .before .before
+
+abbrev frame : Turn → ℕ
+frame c = c .before .f .given .0 .0
+
+there : (c : Turn) → lowestFrom (head c .loop .from) (entry c .args .nuclei .now) ≡ At (frame c)
+there c = sym (c .before .before .before .lowest-from .ensures) ∙ c .before .f .given .1
+
+low : (c : Turn) → frame c ≤ lastFrame
+low c = within (entry c .pre .within) (lowest _ _ (there c) .member)
+
+enough : (c : Turn) → head c .loop .count + 1 + countFrom (frame c + 1) (entry c .args .nuclei .now) ≤ length (entry c .args .nuclei .now)
+enough c = walk-enough _ _ _ (head c .loop .inv .0) (there c)
 
 span-of-requires : tie.Need-span-of-requires Inv-loop μ-loop
-span-of-requires c κs =
-    let low = within (c .before .before .before .before .before .before .before .before .pre .within) (lowest _ _ (sym (c .before .before .before .lowest-from .ensures) ∙ c .before .f .given .1) .member) in
-    omega arith
+span-of-requires c κs = omega (arith, low c)
 
--- the span of this turn stands next, and there is room for it
-next : (c : tie.After-span-of Inv-loop μ-loop)
-    → ahead (c .before .before .before .before .before .before .before .before .before .args .nuclei .now) (c .before .before .before .before .before .before .before .before .before .args .bounds .now) (c .before .before .before .before .before .before .before .before .before .args .lo-edge) (c .before .before .before .before .before .before .before .before .before .args .hi-edge) (c .before .before .before .before .before .loop .count) (c .before .before .before .before .before .loop .from)
-    ≡ c .span-of .result .start ∷ c .span-of .result .end ∷ ahead (c .before .before .before .before .before .before .before .before .before .args .nuclei .now) (c .before .before .before .before .before .before .before .before .before .args .bounds .now) (c .before .before .before .before .before .before .before .before .before .args .lo-edge) (c .before .before .before .before .before .before .before .before .before .args .hi-edge) (c .before .before .before .before .before .loop .count + 1) (c .before .before .f .given .0 .0 + 1)
-next c = next-span _ _ _ _ _ _ _ (c .before .before .before .before .before .loop .inv .0) (sym (c .before .before .before .before .lowest-from .ensures) ∙ c .before .before .f .given .1) (c .span-of .ensures)
+-- its span stands next, and there is room for it
+abbrev Spanned : Type 0
+Spanned = tie.After-span-of Inv-loop μ-loop
 
-space : (c : tie.After-span-of Inv-loop μ-loop) → 2 * c .before .before .before .before .before .loop .count + 2 ≤ length (c .before .before .before .before .before .loop .out)
-space c = room (c .before .before .before .before .before .loop .inv .1) (next c) (fits _ _ _ _ (c .before .before .before .before .before .before .before .before .before .pre))
+abbrev left-at : Turn → ℕ → ℕ → List ℕ
+left-at c count from =
+    ahead (entry c .args .nuclei .now) (entry c .args .bounds .now) (entry c .args .lo-edge) (entry c .args .hi-edge) count from
+
+next : (c : Spanned)
+    → left-at (c .before) (head (c .before) .loop .count) (head (c .before) .loop .from)
+    ≡ c .span-of .result .start ∷ c .span-of .result .end ∷ left-at (c .before) (head (c .before) .loop .count + 1) (frame (c .before) + 1)
+next c = next-span _ _ _ _ _ _ _ (head (c .before) .loop .inv .0) (there (c .before)) (c .span-of .ensures)
+
+space : (c : Spanned) → 2 * head (c .before) .loop .count + 2 ≤ length (head (c .before) .loop .out)
+space c = room (head (c .before) .loop .inv .1) (next c) (fits _ _ _ _ (entry (c .before) .pre))
 
 mul-at : tie.Need-mul-at Inv-loop μ-loop
 mul-at c = omega (arith, space c)
@@ -107,17 +143,16 @@ add-count : tie.Need-add-count Inv-loop μ-loop
 add-count c = omega (arith, space c)
 
 add-from : tie.Need-add-from Inv-loop μ-loop
-add-from c =
-    let low = within (c .before .before .before .before .before .before .before .before .before .pre .within) (lowest _ _ (sym (c .before .before .before .before .lowest-from .ensures) ∙ c .before .before .f .given .1) .member) in
-    omega arith
+add-from c = omega (arith, low (c .before))
 
 loop-less : tie.Need-loop-less Inv-loop μ-loop
-loop-less c =
-    let more = walk-enough _ _ _ (c .before .before .before .before .before .loop .inv .0) (sym (c .before .before .before .before .lowest-from .ensures) ∙ c .before .before .f .given .1) in
-    omega arith
+loop-less c = omega (arith, enough (c .before))
 
 loop-again : tie.Need-loop-again Inv-loop μ-loop
-loop-again c = (walk-enough _ _ _ (c .before .before .before .before .before .loop .inv .0) (sym (c .before .before .before .before .lowest-from .ensures) ∙ c .before .before .f .given .1), rw (two-on (c .before .before .before .before .before .loop .count)) (two-more (c .before .before .before .before .before .loop .inv .1) (next c) (fits _ _ _ _ (c .before .before .before .before .before .before .before .before .before .pre))))
+loop-again c = (
+  enough (c .before),
+  rw (two-on (head (c .before) .loop .count)) (two-more (head (c .before) .loop .inv .1) (next c) (fits _ _ _ _ (entry (c .before) .pre))),
+)
 
 pub write-spans-spec : {M : Type 1} → statement M
 write-spans-spec =

@@ -18,14 +18,8 @@ returns-2 : tie.Need-returns-2
 unfolding joined
 returns-2 c = rw (le-leb _ _ (c .before .if1 .left), lt-leb _ _ (c .if2 .taken))
 
-mul-all-marked : tie.Need-mul-all-marked
-mul-all-marked c = search needs
-
 all-marked-requires : tie.Need-all-marked-requires
 all-marked-requires c κs = search needs
-
-add-all-marked : tie.Need-add-all-marked
-add-all-marked c = search needs
 
 all-marked-requires-2 : tie.Need-all-marked-requires-2
 all-marked-requires-2 c κs = search needs
@@ -43,8 +37,6 @@ joined-spec =
     returns
     add-if2
     returns-2
-    mul-all-marked
     all-marked-requires
-    add-all-marked
     all-marked-requires-2
     returns-3)

@@ -1,12 +1,10 @@
 -- `joins`: the tests are those of `joinsOf` in its order, and then each edge's own answer.
-use mathlib.Core.Path.{_≡_, ap₂}
-use mathlib.Core.Bool.{Bool, false}
+use mathlib.Core.Path.{ap₂}
+use mathlib.Core.Bool.{Bool}
 use borrow.Author.Needs.{needs}
-use lib.Dec.{ltb}
-use borrow.Author.Tests.{ltb-false}
 use Rattle.evidence.specs.Joins.{Edges, joinsOf}
 use Rattle.evidence.specs.Outcome.{Outcome, accepted}
-use Rattle.evidence.proofs.Checks.{taken, passed, or-l, or-r}
+use Rattle.evidence.proofs.Checks.{taken, passed}
 use Rattle.evidence.proofs.joins.joins.Statement.{statement}
 use Rattle.evidence.proofs.joins.joins.Tie as tie
 
@@ -25,19 +23,20 @@ unfit-requires-2 c κs = search needs
 
 returns-2 : tie.Need-returns-2
 unfolding joinsOf
-returns-2 c = passed _ (c .before .before .before .if1 .left) (taken _ (rw (c .before .before .unfit .ensures, c .before .unfit2 .ensures) at (c .if2 .taken)))
+returns-2 c =
+    passed _ (c .before .before .before .if1 .left) (taken _ (rw (c .before .before .unfit .ensures, c .before .unfit2 .ensures) at (c .if2 .taken)))
 
 joined-requires : tie.Need-joined-requires
-joined-requires c κs = search (or-l, or-r, ltb-false)
+joined-requires c κs = search needs
 
 joined-requires-2 : tie.Need-joined-requires-2
-joined-requires-2 c κs =
-    let h : ltb 4095 (c .before .before .before .before .before .before .before .args .end) ≡ false = search (or-l, or-r) in
-    ltb-false _ _ h
+joined-requires-2 c κs = search needs
 
 returns-3 : tie.Need-returns-3
 unfolding joinsOf edges
-returns-3 c = passed _ (c .before .before .before .before .before .if1 .left) (passed _ (rw (c .before .before .before .before .unfit .ensures, c .before .before .before .unfit2 .ensures) at (c .before .before .if2 .left)) (ap₂ edges (c .before .joined .ensures) (c .joined2 .ensures)))
+returns-3 c =
+    let fit = rw (c .before .before .before .before .unfit .ensures, c .before .before .before .unfit2 .ensures) at (c .before .before .if2 .left) in
+    passed _ (c .before .before .before .before .before .if1 .left) (passed _ fit (ap₂ edges (c .before .joined .ensures) (c .joined2 .ensures)))
 
 pub joins-spec : {M : Type 1} → statement M
 joins-spec =

@@ -13,7 +13,8 @@ use Rattle.evidence.proofs.masks.all_marked.Statement.{statement}
 use Rattle.evidence.proofs.masks.all_marked.Tie as tie
 
 -- the last of i frames decides, or leaves it to those before
-last-first : (mask : List ℕ) (first i : ℕ) → 0 < i → allMarked mask first i ≡ (marked mask (first + (i - 1)) && allMarked mask first (i - 1))
+last-first : (mask : List ℕ) (first i : ℕ) → 0 < i
+    → allMarked mask first i ≡ (marked mask (first + (i - 1)) && allMarked mask first (i - 1))
 unfolding allMarked
 last-first mask first zero h = absurd (not-suc-le-zero h)
 last-first mask first (suc n) h = rw sub-one
@@ -21,7 +22,8 @@ last-first mask first (suc n) h = rw sub-one
 unmarked : (mask : List ℕ) (first i : ℕ) → 0 < i → marked mask (first + (i - 1)) ≡ false → allMarked mask first i ≡ false
 unmarked mask first i h e = last-first mask first i h ∙ rw e
 
-still-marked : (mask : List ℕ) (first i : ℕ) → 0 < i → marked mask (first + (i - 1)) ≡ true → allMarked mask first i ≡ allMarked mask first (i - 1)
+still-marked : (mask : List ℕ) (first i : ℕ) → 0 < i → marked mask (first + (i - 1)) ≡ true
+    → allMarked mask first i ≡ allMarked mask first (i - 1)
 still-marked mask first i h e = last-first mask first i h ∙ rw e
 
 no-frame : (mask : List ℕ) (first i : ℕ) → i ≤ 0 → allMarked mask first i ≡ true
@@ -48,14 +50,17 @@ marked-requires : tie.Need-marked-requires Inv-loop μ-loop
 marked-requires c κs = search needs
 
 returns : tie.Need-returns Inv-loop μ-loop
-returns c = sym (c .before .before .before .loop .inv .1 ∙ unmarked _ _ _ (c .before .before .loop-test .taken) (sym (c .before .marked .ensures) ∙ not-true _ (c .if1 .taken)))
+returns c =
+    let bare = sym (c .before .marked .ensures) ∙ not-true _ (c .if1 .taken) in
+    sym (c .before .before .before .loop .inv .1 ∙ unmarked _ _ _ (c .before .before .loop-test .taken) bare)
 
 loop-less : tie.Need-loop-less Inv-loop μ-loop
 loop-less c = omega arith
 
 loop-again : tie.Need-loop-again Inv-loop μ-loop
 loop-again c =
-    (omega arith, c .before .before .before .loop .inv .1 ∙ still-marked _ _ _ (c .before .before .loop-test .taken) (sym (c .before .marked .ensures) ∙ not-false _ (c .if1 .left)))
+    let mark = sym (c .before .marked .ensures) ∙ not-false _ (c .if1 .left) in
+    (omega arith, c .before .before .before .loop .inv .1 ∙ still-marked _ _ _ (c .before .before .loop-test .taken) mark)
 
 returns-2 : tie.Need-returns-2 Inv-loop μ-loop
 returns-2 c = sym (c .before .loop .inv .1 ∙ no-frame _ _ _ (c .loop-test .left))

@@ -1,3 +1,4 @@
+-- A sum of four bytes, each below 256, fits.
 use Rattle.record.specs.Bytes.{u32At}
 use borrow.Author.Needs.{needs}
 use Rattle.record.proofs.bytes.u32_at.Statement.{statement}

@@ -1,3 +1,4 @@
+-- The two halves, the low one first.
 use Rattle.record.specs.Bytes.{u64At}
 use borrow.Author.Needs.{needs}
 use Rattle.record.proofs.bytes.u64_at.Statement.{statement}

@@ -1,3 +1,4 @@
+-- The test is that of the definition.
 use borrow.Author.Needs.{needs}
 use Rattle.record.proofs.candidates.bad_units.Statement.{statement}
 use Rattle.record.proofs.candidates.bad_units.Tie as tie

@@ -1,3 +1,4 @@
+-- An entry before the last lies within the section.
 use native.Mathlib.Omega.{arith}
 use Rattle.record.proofs.Entries.{entry-within}
 use mathlib.Core.Path.{refl}

@@ -1,9 +1,8 @@
 -- What the rules of the candidates from `i` on find is what all of them find.
-use Prim.Native.Nat.{ℕ, _-_, _≤_}
+use Prim.Native.Nat.{_-_, _≤_}
 use mathlib.Core.Path.{_≡_, sym, ap, _∙_}
 use mathlib.Core.Option.{Option}
 use native.Mathlib.Omega.{arith}
-use denote.Ref.{now}
 use Rattle.record.specs.Refusals.{answer, firstOf, candidateRules}
 use Rattle.record.specs.declared.refusal.Refusal.{Refusal}
 use Rattle.record.proofs.Rules.{rest, rest-all, rest-done, first-twice, first-units, first-column, first-later}

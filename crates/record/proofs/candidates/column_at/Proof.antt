@@ -1,3 +1,4 @@
+-- The columns stand behind the two words.
 use Prim.Native.Nat.{ℕ, _+_}
 use mathlib.Core.Path.{ap, _∙_}
 use Rattle.record.specs.Bytes.{byteAt}

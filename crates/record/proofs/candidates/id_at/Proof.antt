@@ -1,3 +1,4 @@
+-- The id is the entry's first word.
 use mathlib.Core.Path.{ap, _∙_}
 use Rattle.record.specs.Bytes.{u32At}
 use borrow.Author.Needs.{needs}

@@ -1,3 +1,4 @@
+-- The unit count is the entry's second word.
 use Prim.Native.Nat.{ℕ, _+_}
 use mathlib.Core.Path.{ap, _∙_}
 use Rattle.record.specs.Bytes.{u32At}

@@ -1,9 +1,9 @@
 -- At each test the rest of the chain of rules decides what the whole of it does; a rule whose condition holds ends it.
-use Prim.Native.Nat.{ℕ, _+_, _-_, _≤_}
+use Prim.Native.Nat.{ℕ, _≤_}
 use mathlib.Core.Bool.{cond}
 use mathlib.Core.List.{List}
 use mathlib.Core.Option.{Option, some}
-use mathlib.Core.Path.{_≡_, refl, sym, ap, ap₂, subst, subst⁻¹, _∙_}
+use mathlib.Core.Path.{_≡_, refl, sym, ap, ap₂, subst⁻¹, _∙_}
 use native.Mathlib.Omega.{arith}
 use borrow.Author.Needs.{needs}
 use borrow.Author.Tests.{ltb-false, eq-eqb, ne-eqb}
@@ -17,7 +17,6 @@ use Rattle.record.specs.Conditions.{recordBytes, stub, otherEdition, ove
 use Rattle.record.specs.Refusals.{answer, firstOf, candidateRules, refusalOf}
 use Rattle.record.specs.declared.limits.Limits.{Limits}
 use Rattle.record.specs.declared.trailer.Trailer.{Trailer}
-use Rattle.record.specs.declared.layout.Section.{Section}
 use Rattle.record.specs.declared.layout.Layout.{Layout}
 use Rattle.record.specs.declared.refusal.Refusal.{Refusal}
 use Rattle.record.specs.declared.refusal.Refusal.the-variants.{Stub}

@@ -1,3 +1,4 @@
+-- What the record's own rules say comes first; 11 decides where they say nothing.
 use mathlib.Core.Path.{_≡_, sym, ap, subst⁻¹, _∙_}
 use Rattle.record.specs.Edition.{edition1, Moderate}
 use Rattle.record.specs.Conditions.{shortDesk}
@@ -7,7 +8,7 @@ use Rattle.record.proofs.Sizes.{moderate}
 use Rattle.record.proofs.Accepted.{counts}
 use Rattle.record.proofs.Answers.{accepted-exactly, answer-refused, answer-short, answer-fine}
 use denote.Ref.{now}
-use Prim.Native.Nat.{ℕ, _≤_}
+use Prim.Native.Nat.{_≤_}
 use borrow.Author.Needs.{needs}
 use Rattle.record.proofs.check.check_areas.Statement.{statement}
 use Rattle.record.proofs.check.check_areas.Tie as tie

@@ -1,4 +1,4 @@
-use Prim.Native.Nat.{ℕ}
+-- The words that the output needs do not leave a word.
 use native.Mathlib.Omega.{arith}
 use native.Mathlib.Nat.{mul-le-mul, le-trans}
 use borrow.Author.Needs.{needs}

@@ -1,13 +1,13 @@
+-- The second table counts only where there are anchors.
 use native.Mathlib.Omega.{arith}
 use mathlib.Core.Bool.{Bool, true, false, _&&_, _||_}
 use mathlib.Core.List.{List}
-use mathlib.Core.Path.{_≡_, refl, sym, ap, ap₂, _∙_}
+use mathlib.Core.Path.{_≡_, sym, ap, ap₂, _∙_}
 use Prim.Native.Nat.{ℕ, _+_, _*_, _<_}
 use borrow.Author.Tests.{lt-ltb}
 use lib.Dec.{ltb}
 use denote.Ref.{now}
 use Rattle.record.specs.Conditions.{badScores, badFigures, badTable, badCost, firstTable, secondTable}
-use Rattle.record.specs.declared.layout.Section.{Section}
 use Rattle.record.specs.declared.layout.Layout.{Layout}
 use Rattle.record.proofs.Tests.{or-found, or-rest}
 use borrow.Author.Needs.{needs}

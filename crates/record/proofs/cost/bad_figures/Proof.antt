@@ -1,3 +1,4 @@
+-- The three figures.
 use borrow.Author.Needs.{needs}
 use Rattle.record.proofs.cost.bad_figures.Statement.{statement}
 use Rattle.record.proofs.cost.bad_figures.Tie as tie

@@ -1,7 +1,8 @@
+-- The range test on bits, with the bits of 1,000.
 use Prim.Native.Nat.{ℕ}
-use mathlib.Core.Path.{ap, ap₂, _∙_}
-use lib.Ieee.{Float, binary64, ofBits, neg}
-use Rattle.ieee.specs.Range.{between, within}
+use mathlib.Core.Path.{ap₂, _∙_}
+use lib.Ieee.{Float, binary64, ofBits}
+use Rattle.ieee.specs.Range.{within}
 use Rattle.record.proofs.Figures.{thousand-64}
 use borrow.Author.Needs.{needs}
 use Rattle.record.proofs.cost.cost_fits.Statement.{statement}

@@ -1,8 +1,9 @@
+-- The range test on bits, with the bits of 1,000,000 and of 0.
 use Rattle.record.specs.Conditions.{duration?}
 use Prim.Native.Nat.{ℕ}
 use mathlib.Core.Path.{ap, ap₂, _∙_}
 use lib.Ieee.{Float, binary64, ofBits, neg}
-use Rattle.ieee.specs.Range.{between, within}
+use Rattle.ieee.specs.Range.{between}
 use Rattle.record.proofs.Figures.{million-64, zero-64}
 use borrow.Author.Needs.{needs}
 use Rattle.record.proofs.cost.duration_fits.Statement.{statement}

@@ -1,3 +1,4 @@
+-- A section starts its pointer before the trailer.
 use Rattle.record.specs.Layout.{layoutFrom}
 use borrow.Author.Needs.{needs}
 use Rattle.record.proofs.layout.laid_out.Statement.{statement}

@@ -1,5 +1,6 @@
-use mathlib.Core.Path.{_≡_, refl, sym, ap, ap₂, subst, subst⁻¹, _∙_}
-use Prim.Native.Nat.{ℕ, _+_, _-_, _*_, _≤_, _<_}
+-- The section of the stage's anchors, copied.
+use mathlib.Core.Path.{subst}
+use Prim.Native.Nat.{ℕ, _≤_}
 use denote.Ref.{now}
 use lib.ListN.{length}
 use Rattle.record.proofs.Reading.{section-long, section-within, section-copied, anchors-within, anchors-are}

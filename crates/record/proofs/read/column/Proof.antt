@@ -1,19 +1,17 @@
-use mathlib.Core.Path.{_≡_, refl, sym, ap, ap₂, subst, subst⁻¹, _∙_}
-use Prim.Native.Nat.{ℕ, _+_, _-_, _*_, _≤_, _<_}
+-- A used column, of the candidate that the entry means.
+use mathlib.Core.Path.{sym, ap, subst, subst⁻¹, _∙_}
+use Prim.Native.Nat.{ℕ, _<_}
 use denote.Ref.{now}
-use lib.ListN.{length, getD, take, drop}
-use Rattle.phrase.specs.Phrase.{Phrase, Stage, Candidate, spoken}
-use Rattle.record.specs.Meaning.{phraseAt, phraseOf, costsAt, candidateAt}
+use lib.ListN.{length, getD}
+use Rattle.phrase.specs.Phrase.{Candidate}
 use Rattle.record.specs.Edition.{edition1}
 use Rattle.record.specs.Bounds.{CandidatesRead}
 use Rattle.record.specs.declared.limits.Limits.{Limits}
-use Rattle.record.specs.declared.layout.Layout.{Layout}
 use Rattle.record.proofs.Reading.{candidates-read, candidate-there, candidate-is}
-use Rattle.record.specs.Conditions.{idAt, unitsAt, columnAt}
+use Rattle.record.specs.Conditions.{columnAt}
 use Rattle.record.proofs.Below.{length-listed, getD-listed}
-use Rattle.record.proofs.Accepted.{meaning, fit, fit-at}
+use Rattle.record.proofs.Accepted.{fit}
 use native.Mathlib.Nat.{lt-of-lt-of-le}
-use mathlib.Core.List.{[]}
 use borrow.Author.Needs.{needs}
 use Rattle.record.proofs.read.column.Statement.{statement}
 use Rattle.record.proofs.read.column.Tie as tie

@@ -1,16 +1,16 @@
+-- The three figures are in their ranges, so no NaNs.
 use native.Mathlib.Omega.{arith}
-use mathlib.Core.Path.{_≡_, refl, sym, ap, ap₂, subst, subst⁻¹, _∙_}
-use mathlib.Core.Bool.{Bool, not, _&&_}
-use Prim.Native.Nat.{ℕ, _+_, _-_, _*_, _≤_, _<_}
+use mathlib.Core.Path.{_≡_, ap, subst⁻¹, _∙_}
+use mathlib.Core.Bool.{not}
+use Prim.Native.Nat.{ℕ, _+_}
 use denote.Ref.{now}
 use lib.Dec.{T}
 use lib.Ieee.{binary32, binary64, ofBits, nanBits}
-use Rattle.phrase.specs.Phrase.{Phrase, Stage, Candidate, spoken}
-use Rattle.phrase.specs.declared.costs.Costs.{Costs}
-use Rattle.record.specs.Meaning.{phraseAt, phraseOf, costsAt, candidateAt}
+use Rattle.phrase.specs.Phrase.{Phrase}
+use Rattle.record.specs.Meaning.{phraseAt, costsAt}
 use Rattle.record.specs.Bytes.{u32At, u64At}
 use Rattle.record.specs.Accepted.{Laid}
-use Rattle.record.proofs.Accepted.{meaning, fit, fit-at}
+use Rattle.record.proofs.Accepted.{meaning, fit-at}
 use Rattle.record.proofs.Reading.{sections, real-bits, within-real}
 use Rattle.record.specs.declared.layout.Layout.{Layout}
 use mathlib.Core.List.{List}

@@ -1,15 +1,13 @@
+-- The entry is in its range, so no NaN.
 use native.Mathlib.Omega.{arith}
-use mathlib.Core.Path.{_≡_, refl, sym, ap, ap₂, subst, subst⁻¹, _∙_}
-use mathlib.Core.Bool.{Bool, not, _&&_}
-use Prim.Native.Nat.{ℕ, _+_, _-_, _*_, _≤_, _<_}
+use mathlib.Core.Path.{_≡_, ap, subst⁻¹, _∙_}
+use mathlib.Core.Bool.{not}
+use Prim.Native.Nat.{ℕ}
 use denote.Ref.{now}
 use lib.Dec.{T}
 use lib.Ieee.{binary64, ofBits, isNan}
-use Rattle.phrase.specs.Phrase.{Phrase, Stage, Candidate, spoken}
-use Rattle.record.specs.Conditions.{shortest, longest, f64At}
 use Rattle.record.specs.Meaning.{durationAt}
 use Rattle.record.specs.Reading.{tableStart}
-use Rattle.record.specs.Bytes.{u64At}
 use Rattle.record.proofs.Reading.{sections, table-within, duration-is, duration-within, real-bits, within-real}
 use borrow.Author.Needs.{needs}
 use Rattle.record.proofs.read.duration.Statement.{statement}

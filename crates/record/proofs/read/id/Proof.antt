@@ -1,15 +1,12 @@
-use mathlib.Core.Path.{_≡_, refl, sym, ap, ap₂, subst, subst⁻¹, _∙_}
-use Prim.Native.Nat.{ℕ, _+_, _-_, _*_, _≤_, _<_}
+-- The entry's id, of the candidate that it means.
+use mathlib.Core.Path.{ap, subst⁻¹, _∙_}
 use denote.Ref.{now}
-use lib.ListN.{length, getD, take, drop}
-use Rattle.phrase.specs.Phrase.{Phrase, Stage, Candidate, spoken}
-use Rattle.record.specs.Meaning.{phraseAt, phraseOf, costsAt, candidateAt}
-use Rattle.record.specs.Edition.{edition1}
+use lib.ListN.{length}
+use Rattle.phrase.specs.Phrase.{Candidate}
 use Rattle.record.specs.Bounds.{CandidatesRead}
 use Rattle.record.specs.declared.limits.Limits.{Limits}
-use Rattle.record.specs.declared.layout.Layout.{Layout}
 use Rattle.record.proofs.Reading.{candidates-read, candidate-there, candidate-is}
-use Rattle.record.specs.Conditions.{idAt, unitsAt, columnAt}
+use Rattle.record.specs.Conditions.{idAt}
 use borrow.Author.Needs.{needs}
 use Rattle.record.proofs.read.id.Statement.{statement}
 use Rattle.record.proofs.read.id.Tie as tie

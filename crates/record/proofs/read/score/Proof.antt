@@ -1,6 +1,7 @@
-use mathlib.Core.Path.{_≡_, refl, sym, ap, ap₂, subst, subst⁻¹, _∙_}
-use mathlib.Core.Bool.{Bool, not, _&&_}
-use Prim.Native.Nat.{ℕ, _+_, _-_, _*_, _≤_, _<_}
+-- The bits are read as the float that they stand for.
+use mathlib.Core.Path.{ap, subst⁻¹}
+use mathlib.Core.Bool.{not}
+use Prim.Native.Nat.{ℕ}
 use lib.Dec.{T}
 use lib.Ieee.{binary32, ofBits, isNan}
 use Rattle.record.proofs.Reading.{real-bits}

@@ -1,13 +1,14 @@
+-- Both words at their greatest mean no speech.
 use native.Mathlib.Omega.{arith}
-use mathlib.Core.Path.{_≡_, refl, sym, ap, ap₂, subst, subst⁻¹, _∙_}
-use mathlib.Core.Bool.{Bool, not, _&&_}
-use Prim.Native.Nat.{ℕ, _+_, _-_, _*_, _≤_, _<_}
+use mathlib.Core.Path.{_≡_, refl, sym, ap, ap₂, _∙_}
+use mathlib.Core.Bool.{_&&_}
+use Prim.Native.Nat.{ℕ}
 use denote.Ref.{now}
 use lib.Dec.{eqb}
-use Rattle.phrase.specs.Phrase.{Phrase, Stage, Candidate, spoken}
-use Rattle.record.specs.Meaning.{phraseAt, phraseOf, costsAt, candidateAt}
+use Rattle.phrase.specs.Phrase.{Phrase, spoken}
+use Rattle.record.specs.Meaning.{phraseAt}
 use Rattle.record.specs.Conditions.{noFrame, speechStart, speechEnd}
-use Rattle.record.proofs.Accepted.{meaning, fit, fit-at}
+use Rattle.record.proofs.Accepted.{meaning}
 use Rattle.record.proofs.Reading.{sections}
 use Rattle.record.proofs.Tests.{taken, passed}
 use Rattle.record.proofs.read.speech.Statement.{statement}

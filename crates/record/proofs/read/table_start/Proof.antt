@@ -1,4 +1,5 @@
-use mathlib.Core.Path.{_≡_, refl, sym, ap, ap₂, subst, subst⁻¹, _∙_}
+-- Each stage has its own table.
+use mathlib.Core.Path.{sym, ap}
 use Rattle.record.specs.Reading.{tableStart}
 use Rattle.record.specs.declared.read.Which.{Which}
 use borrow.Author.Needs.{needs}

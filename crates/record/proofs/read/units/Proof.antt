@@ -1,16 +1,14 @@
-use mathlib.Core.Path.{_≡_, refl, sym, ap, ap₂, subst, subst⁻¹, _∙_}
-use Prim.Native.Nat.{ℕ, _+_, _-_, _*_, _≤_, _<_}
+-- The entry's unit count is the number of its columns.
+use mathlib.Core.Path.{sym, ap, subst⁻¹, _∙_}
 use denote.Ref.{now}
-use lib.ListN.{length, getD, take, drop}
-use Rattle.phrase.specs.Phrase.{Phrase, Stage, Candidate, spoken}
-use Rattle.record.specs.Meaning.{phraseAt, phraseOf, costsAt, candidateAt}
+use lib.ListN.{length}
+use Rattle.phrase.specs.Phrase.{Candidate}
 use Rattle.record.specs.Edition.{edition1}
 use Rattle.record.specs.Bounds.{CandidatesRead}
 use Rattle.record.specs.declared.limits.Limits.{Limits}
-use Rattle.record.specs.declared.layout.Layout.{Layout}
 use Rattle.record.proofs.Reading.{candidates-read, candidate-there, candidate-is}
-use Rattle.record.specs.Conditions.{idAt, unitsAt, columnAt}
-use Rattle.record.proofs.Below.{length-listed, getD-listed}
+use Rattle.record.specs.Conditions.{unitsAt, columnAt}
+use Rattle.record.proofs.Below.{length-listed}
 use borrow.Author.Needs.{needs}
 use Rattle.record.proofs.read.units.Statement.{statement}
 use Rattle.record.proofs.read.units.Tie as tie

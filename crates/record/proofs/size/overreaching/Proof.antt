@@ -1,4 +1,4 @@
-use mathlib.Core.Path.{refl}
+-- Each section is tested with its own length; no length leaves a word, since the counts are within their limits.
 use native.Mathlib.Omega.{arith}
 use Rattle.record.specs.Conditions.{overreaching}
 use Rattle.record.proofs.Sizes.{scores-most, candidates-most}

@@ -1,3 +1,4 @@
+-- The tests are those of the definition, in its order.
 use mathlib.Core.Path.{refl}
 use Rattle.record.specs.Conditions.{oversized}
 use Rattle.record.proofs.size.oversized.Statement.{statement}

@@ -1,3 +1,4 @@
+-- The two conditions of a list.
 use borrow.Author.Needs.{needs}
 use Rattle.record.proofs.track.bad_list.Statement.{statement}
 use Rattle.record.proofs.track.bad_list.Tie as tie

@@ -1,3 +1,4 @@
+-- The edges are read from the costs block.
 use borrow.Author.Needs.{needs}
 use Rattle.record.proofs.track.bad_speech.Statement.{statement}
 use Rattle.record.proofs.track.bad_speech.Tie as tie

@@ -1,3 +1,4 @@
+-- Each part of condition 5 is tested where the layout has it.
 use Rattle.record.specs.Conditions.{badTrack}
 use borrow.Author.Needs.{needs}
 use Rattle.record.proofs.track.bad_track.Statement.{statement}

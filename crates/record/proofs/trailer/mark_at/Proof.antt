@@ -1,3 +1,4 @@
+-- A count and the pointer behind it.
 use borrow.Author.Needs.{needs}
 use Rattle.record.proofs.trailer.mark_at.Statement.{statement}
 use Rattle.record.proofs.trailer.mark_at.Tie as tie

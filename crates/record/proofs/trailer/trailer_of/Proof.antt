@@ -1,3 +1,4 @@
+-- Each field is read from its word.
 use Rattle.record.specs.Layout.{trailerOf}
 use borrow.Author.Needs.{needs}
 use Rattle.record.proofs.trailer.trailer_of.Statement.{statement}

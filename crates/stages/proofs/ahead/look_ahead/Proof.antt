@@ -1,8 +1,9 @@
 -- Each turn fills the entries of one boundary.
-use Prim.Native.Nat.{ℕ, _+_, _≤_, _<_, _-_}
+use Prim.Native.Nat.{_+_, _≤_, _-_}
 use mathlib.Core.Path.{_≡_, refl}
 use native.Mathlib.Omega.{arith}
 use lib.ListN.{getD}
+use Rattle.stages.specs.Room.{most}
 use Rattle.stages.specs.Ahead.{LooksAhead}
 use Rattle.stages.proofs.Listed.{table-none, table-more}
 use Rattle.stages.proofs.ahead.look_ahead.Statement.{statement}
@@ -21,9 +22,9 @@ loop-holds c =
     let places = c .args .places .now in (
       omega arith,
       record {
-        firsts = table-none (λ j. getD frames (getD places j 0) 0) 64 0;
-        seconds = table-none (λ j. getD frames (getD places j 0 + 1) 0) 64 0;
-        ranks = table-none (λ j. getD rows (getD places j 0) 0) 64 0;
+        firsts = table-none (λ j. getD frames (getD places j 0) 0) most 0;
+        seconds = table-none (λ j. getD frames (getD places j 0 + 1) 0) most 0;
+        ranks = table-none (λ j. getD rows (getD places j 0) 0) most 0;
       },
     )
 
@@ -86,9 +87,9 @@ loop-again c =
     let l = c .before .before .before .before .before .loop in (
       omega arith,
       record {
-        firsts = table-more (λ j. getD frames (getD places j 0) 0) (l .j) 64 0 _ (l .first) (l .inv .1 .firsts) (omega arith) refl;
-        seconds = table-more (λ j. getD frames (getD places j 0 + 1) 0) (l .j) 64 0 _ (l .second) (l .inv .1 .seconds) (omega arith) refl;
-        ranks = table-more (λ j. getD rows (getD places j 0) 0) (l .j) 64 0 _ (l .row) (l .inv .1 .ranks) (omega arith) refl;
+        firsts = table-more (λ j. getD frames (getD places j 0) 0) (l .j) most 0 _ (l .first) (l .inv .1 .firsts) (omega arith) refl;
+        seconds = table-more (λ j. getD frames (getD places j 0 + 1) 0) (l .j) most 0 _ (l .second) (l .inv .1 .seconds) (omega arith) refl;
+        ranks = table-more (λ j. getD rows (getD places j 0) 0) (l .j) most 0 _ (l .row) (l .inv .1 .ranks) (omega arith) refl;
       },
     )
 

@@ -1,9 +1,6 @@
 -- What is passed is below the bound; the frame that stops the walk is not.
-use Prim.Native.Nat.{ℕ, _+_, _≤_, _<_, _-_}
-use mathlib.Core.Path.{_≡_, refl, sym, ap, _∙_}
+use Prim.Native.Nat.{_≤_, _<_, _-_}
 use native.Mathlib.Omega.{arith}
-use borrow.Author.Needs.{needs}
-use lib.ListN.{length, getD}
 use Rattle.stages.specs.Tables.{beyond}
 use Rattle.stages.specs.Places.{countBelow}
 use Rattle.stages.proofs.Places.{is-below, not-below}

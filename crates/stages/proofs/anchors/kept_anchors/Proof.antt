@@ -1,15 +1,15 @@
 -- The arrays hold the anchors kept of the frames passed.
 use Prim.Native.Nat.{ℕ, _+_, _≤_, _<_, _-_}
-use mathlib.Core.Path.{_≡_, refl, sym, ap, subst₃, _∙_}
+use mathlib.Core.Path.{_≡_, sym, ap, subst₃, _∙_}
 use mathlib.Core.List.{List}
 use mathlib.Core.Logic.{⊎-elim}
 use native.Mathlib.Omega.{arith}
 use borrow.Author.Needs.{needs}
-use lib.ListN.{length, getD, take, set}
+use lib.ListN.{length, take}
 use lib.Seq.{take-length}
-use Rattle.paths.specs.Anchors.{Anchor, keptIn, select, numbered}
+use Rattle.paths.specs.Anchors.{keptIn, select, numbered}
 use Rattle.stages.specs.Kept.{Keeps}
-use Rattle.stages.proofs.Kept.{keeps-none, keeps-more, keeps-it, drops-it}
+use Rattle.stages.proofs.Kept.{keeps-none, keeps-it, drops-it}
 use Rattle.stages.proofs.anchors.kept_anchors.Statement.{statement}
 use Rattle.stages.proofs.anchors.kept_anchors.Tie as tie
 

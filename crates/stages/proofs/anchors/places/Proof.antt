@@ -1,9 +1,9 @@
 -- Each place is found from the one before, which is not above it.
-use Prim.Native.Nat.{ℕ, _+_, _≤_, _<_, _-_}
-use mathlib.Core.Path.{_≡_, refl, sym, ap, _∙_}
-use mathlib.Core.List.{List}
+use Prim.Native.Nat.{ℕ, _+_, _≤_, _-_}
+use mathlib.Core.Path.{_≡_, sym, ap, _∙_}
 use native.Mathlib.Omega.{arith}
-use lib.ListN.{length, getD, set}
+use lib.ListN.{length, getD}
+use Rattle.stages.specs.Room.{edges}
 use Rattle.stages.specs.Listed.{tableOf}
 use Rattle.stages.specs.Edges.{edge}
 use Rattle.stages.specs.Tables.{beyond}
@@ -16,13 +16,13 @@ use Rattle.stages.proofs.anchors.places.Tie as tie
 
 abbrev Inv-loop : tie.InvT-loop
 Inv-loop frames bounds places₀ place₀ j₀ places place j =
-    (j ≤ length bounds) × (places ≡ tableOf (placeBefore frames bounds) j 65 0) × (place ≤ placeBefore frames bounds j)
+    (j ≤ length bounds) × (places ≡ tableOf (placeBefore frames bounds) j edges 0) × (place ≤ placeBefore frames bounds j)
 
 abbrev μ-loop : tie.MeasureT-loop
 μ-loop frames bounds places₀ place₀ j₀ places place j = length bounds - j
 
 loop-holds : tie.Need-loop-holds Inv-loop μ-loop
-loop-holds c = (omega arith, table-none (placeBefore (c .before .before .args .frames .now) (c .before .before .args .bounds .now)) 65 0, omega arith)
+loop-holds c = (omega arith, table-none (placeBefore (c .before .before .args .frames .now) (c .before .before .args .bounds .now)) edges 0, omega arith)
 
 mul-advance : tie.Need-mul-advance Inv-loop μ-loop
 mul-advance c = omega arith
@@ -60,7 +60,7 @@ loop-again c =
     let l = c .before .before .before .loop in
     let e = edge-in bounds beyond (l .j) (omega arith) in (
       omega arith,
-      table-more (placeBefore frames bounds) (l .j) 65 0 _ (l .places) (l .inv .1) (omega arith) (c .advance .ensures ∙ ap (countBelow frames) (sym e)),
+      table-more (placeBefore frames bounds) (l .j) edges 0 _ (l .places) (l .inv .1) (omega arith) (c .advance .ensures ∙ ap (countBelow frames) (sym e)),
       rw (c .advance .ensures)
           (below-mono frames (getD bounds (l .j) 0) (edge bounds beyond (l .j + 1))
           (edge-ascends bounds beyond (pre .3) (l .j) (omega arith) (omega (arith, c .before .shared-slice-known3 .given (l .j))))),
@@ -86,9 +86,9 @@ returns c =
     let bounds = c .before .before .before .before .before .args .bounds .now in
     let l = c .before .before .loop in
     let e : l .j ≡ length bounds = omega arith in
-    table-more (placeBefore frames bounds) (l .j) 65 0 _ (l .places) (l .inv .1) (omega arith)
+    table-more (placeBefore frames bounds) (l .j) edges 0 _ (l .places) (l .inv .1) (omega arith)
     (c .advance2 .ensures ∙ ap (countBelow frames) (sym (ap (λ (j : ℕ). edge bounds beyond j) e ∙ edge-end bounds beyond)))
-    ∙ ap (λ (j : ℕ). tableOf (placeBefore frames bounds) (j + 1) 65 0) e
+    ∙ ap (λ (j : ℕ). tableOf (placeBefore frames bounds) (j + 1) edges 0) e
 
 pub places-spec : {M : Type 1} → statement M
 places-spec =

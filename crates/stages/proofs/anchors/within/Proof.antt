@@ -1,6 +1,4 @@
 -- A frame below the mask's length is decided by its byte, any other is outside.
-use mathlib.Core.Path.{sym}
-use mathlib.Core.Bool.{_&&_}
 use borrow.Author.Needs.{needs}
 use borrow.Author.Tests.{lt-ltb, le-ltb}
 use Rattle.paths.specs.Frames.{within}

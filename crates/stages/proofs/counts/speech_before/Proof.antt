@@ -1,12 +1,12 @@
 -- The count so far is that up to the boundary before; each stretch is counted once and carried on.
 use Prim.Native.Nat.{ℕ, _+_, _≤_, _<_, _-_}
-use mathlib.Core.Path.{_≡_, refl, sym, ap, ap₂, _∙_}
-use mathlib.Core.List.{List}
+use mathlib.Core.Path.{_≡_, sym, ap, _∙_}
 use native.Mathlib.Omega.{arith}
 use borrow.Author.Needs.{needs}
-use lib.ListN.{length, getD, set}
+use lib.ListN.{length, getD}
 use Rattle.paths.specs.Frames.{speechIn}
-use Rattle.stages.specs.Listed.{padded, listed, tableOf}
+use Rattle.stages.specs.Room.{edges}
+use Rattle.stages.specs.Listed.{tableOf}
 use Rattle.stages.specs.Edges.{edge, speechBefore}
 use Rattle.stages.proofs.Listed.{table-none, table-more}
 use Rattle.stages.proofs.Edges.{edge-in, edge-end, ascends}
@@ -17,7 +17,7 @@ use Rattle.stages.proofs.counts.speech_before.Tie as tie
 abbrev Inv-loop : tie.InvT-loop
 Inv-loop mask bounds end counts₀ count₀ from₀ j₀ counts count from j =
     (j ≤ length bounds)
-    × (counts ≡ tableOf (speechBefore mask bounds) j 65 0)
+    × (counts ≡ tableOf (speechBefore mask bounds) j edges 0)
     × (count ≡ speechIn mask 0 from)
     × (j < length bounds → from ≤ getD bounds j 0)
 
@@ -44,7 +44,9 @@ cast-end : tie.Need-cast-end Inv-loop μ-loop
 cast-end c = omega arith
 
 loop-holds : tie.Need-loop-holds Inv-loop μ-loop
-loop-holds c = (omega arith, table-none (speechBefore (c .before .before .args .mask .now) (c .before .before .args .bounds .now)) 65 0, speech-none (c .before .before .args .mask .now), λ _. omega arith)
+loop-holds c =
+    let args = c .before .before .args in
+    (omega arith, table-none (speechBefore (args .mask .now) (args .bounds .now)) edges 0, speech-none (args .mask .now), λ _. omega arith)
 
 mul-to : tie.Need-mul-to Inv-loop μ-loop
 mul-to c = omega arith
@@ -56,7 +58,9 @@ speech-in-requires : tie.Need-speech-in-requires Inv-loop μ-loop
 speech-in-requires c κs = search needs
 
 add-count : tie.Need-add-count Inv-loop μ-loop
-add-count c = omega (arith, counted c, speech-le (c .before .before .before .before .before .before .args .mask .now) 0 (getD (c .before .before .before .before .before .before .args .bounds .now) (c .before .before .before .loop .j) 0))
+add-count c =
+    let args = c .before .before .before .before .before .before .args in
+    omega (arith, counted c, speech-le (args .mask .now) 0 (getD (args .bounds .now) (c .before .before .before .loop .j) 0))
 
 mul-counts : tie.Need-mul-counts Inv-loop μ-loop
 mul-counts c = omega arith
@@ -76,7 +80,7 @@ loop-again c =
     let bounds = c .before .before .before .before .before .before .args .bounds .now in
     let l = c .before .before .before .loop in (
       omega arith,
-      table-more (speechBefore mask bounds) (l .j) 65 0 _ (l .counts) (l .inv .1) (omega arith)
+      table-more (speechBefore mask bounds) (l .j) edges 0 _ (l .counts) (l .inv .1) (omega arith)
           (counted c ∙ ap (speechIn mask 0) (sym (edge-in bounds (length mask) (l .j) (omega arith)))),
       counted c,
       ascends bounds (c .before .before .before .before .before .before .pre .2) (l .j),
@@ -86,7 +90,9 @@ speech-in-requires-2 : tie.Need-speech-in-requires-2 Inv-loop μ-loop
 speech-in-requires-2 c κs = search needs
 
 add-counts : tie.Need-add-counts Inv-loop μ-loop
-add-counts c = omega (arith, counted-all c, speech-le (c .before .before .before .before .before .args .mask .now) 0 (length (c .before .before .before .before .before .args .mask .now)))
+add-counts c =
+    let mask = c .before .before .before .before .before .args .mask .now in
+    omega (arith, counted-all c, speech-le mask 0 (length mask))
 
 mul-counts-2 : tie.Need-mul-counts-2 Inv-loop μ-loop
 mul-counts-2 c = omega arith
@@ -100,9 +106,9 @@ returns c =
     let bounds = c .before .before .before .before .before .args .bounds .now in
     let l = c .before .before .loop in
     let e : l .j ≡ length bounds = omega arith in
-    table-more (speechBefore mask bounds) (l .j) 65 0 _ (l .counts) (l .inv .1) (omega arith)
+    table-more (speechBefore mask bounds) (l .j) edges 0 _ (l .counts) (l .inv .1) (omega arith)
     (counted-all c ∙ ap (speechIn mask 0) (sym (ap (λ (j : ℕ). edge bounds (length mask) j) e ∙ edge-end bounds (length mask))))
-    ∙ ap (λ (j : ℕ). tableOf (speechBefore mask bounds) (j + 1) 65 0) e
+    ∙ ap (λ (j : ℕ). tableOf (speechBefore mask bounds) (j + 1) edges 0) e
 
 pub speech-before-spec : {M : Type 1} → statement M
 speech-before-spec =

@@ -41,12 +41,10 @@ weight-requires c κs = search needs
 
 add-count : tie.Need-add-count Inv-loop μ-loop
 add-count c =
+    let mask = c .before .before .before .before .before .before .before .args .mask .now in
+    let start = c .before .before .before .before .clamped2 .result in
     let l = c .before .before .before .loop in
-    omega (
-      arith,
-      weight-le (getD (c .before .before .before .before .before .before .before .args .mask .now) (l .at) 0),
-      from-le (c .before .before .before .before .before .before .before .args .mask .now) (c .before .before .before .before .clamped2 .result) (l .at - c .before .before .before .before .clamped2 .result),
-    )
+    omega (arith, weight-le (getD mask (l .at) 0), from-le mask start (l .at - start))
 
 add-at : tie.Need-add-at Inv-loop μ-loop
 add-at c = omega arith

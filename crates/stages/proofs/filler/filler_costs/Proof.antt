@@ -1,10 +1,11 @@
 -- Each turn fills the entries of one boundary.
-use Prim.Native.Nat.{ℕ, _+_, _≤_, _<_, _-_}
+use Prim.Native.Nat.{_+_, _≤_, _-_}
 use mathlib.Core.Path.{_≡_, ap}
 use native.Mathlib.Omega.{arith}
 use borrow.Author.Needs.{needs}
 use lib.Ieee.{neg}
-use Rattle.stages.specs.Filler.{Rises, stretch, startAt, noCost, Priced}
+use Rattle.stages.specs.Room.{most}
+use Rattle.stages.specs.Filler.{stretch, startAt, noCost, Priced}
 use Rattle.stages.proofs.Listed.{table-none, table-more}
 use Rattle.stages.proofs.filler.filler_costs.Statement.{statement}
 use Rattle.stages.proofs.filler.filler_costs.Tie as tie
@@ -23,9 +24,9 @@ loop-holds c =
     let size = c .before .before .args .size in (
       omega arith,
       record {
-        started = table-none (startAt costs speech nuclei) 64 noCost;
-        gapped = table-none (λ j. stretch costs speech nuclei j (j + 1)) 64 noCost;
-        stopped = table-none (λ j. stretch costs speech nuclei j size) 64 noCost;
+        started = table-none (startAt costs speech nuclei) most noCost;
+        gapped = table-none (λ j. stretch costs speech nuclei j (j + 1)) most noCost;
+        stopped = table-none (λ j. stretch costs speech nuclei j size) most noCost;
       },
     )
 
@@ -33,16 +34,22 @@ mul-cost : tie.Need-mul-cost Inv-loop μ-loop
 mul-cost c = omega arith
 
 shared-slice-read-cost : tie.Need-shared-slice-read-cost Inv-loop μ-loop
-shared-slice-read-cost c = c .before .before .before .before .before .pre .1 (c .before .before .loop .j) (c .before .before .loop .j) (omega arith) (omega arith) .lower
+shared-slice-read-cost c =
+    let j = c .before .before .loop .j in
+    c .before .before .before .before .before .pre .1 j j (omega arith) (omega arith) .lower
 
 mul-cost-2 : tie.Need-mul-cost-2 Inv-loop μ-loop
 mul-cost-2 c = omega arith
 
 shared-slice-read-cost-2 : tie.Need-shared-slice-read-cost-2 Inv-loop μ-loop
-shared-slice-read-cost-2 c = c .before .before .before .before .before .before .pre .2 (c .before .before .before .loop .j) (c .before .before .before .loop .j) (omega arith) (omega arith) .lower
+shared-slice-read-cost-2 c =
+    let j = c .before .before .before .loop .j in
+    c .before .before .before .before .before .before .pre .2 j j (omega arith) (omega arith) .lower
 
 cast-cost : tie.Need-cast-cost Inv-loop μ-loop
-cast-cost c = omega (arith, c .before .before .before .before .before .before .pre .2 (c .before .before .before .loop .j) (c .before .before .before .before .before .before .args .size) (omega arith) (omega arith) .rise)
+cast-cost c =
+    let start = c .before .before .before .before .before .before in
+    omega (arith, start .pre .2 (c .before .before .before .loop .j) (start .args .size) (omega arith) (omega arith) .rise)
 
 cost-requires : tie.Need-cost-requires Inv-loop μ-loop
 cost-requires c κs = search needs
@@ -100,9 +107,9 @@ loop-again c =
     let l = c .before .before .before .before .before .before .loop in (
       omega arith,
       record {
-        started = table-more (startAt costs speech nuclei) (l .j) 64 noCost _ (l .start) (l .inv .1 .started) (omega arith) (ap neg (c .before .before .cost .ensures));
-        gapped = table-more (λ j. stretch costs speech nuclei j (j + 1)) (l .j) 64 noCost _ (l .gap) (l .inv .1 .gapped) (omega arith) (c .before .between .ensures);
-        stopped = table-more (λ j. stretch costs speech nuclei j size) (l .j) 64 noCost _ (l .stop) (l .inv .1 .stopped) (omega arith) (c .between2 .ensures);
+        started = table-more (startAt costs speech nuclei) (l .j) most noCost _ (l .start) (l .inv .1 .started) (omega arith) (ap neg (c .before .before .cost .ensures));
+        gapped = table-more (λ j. stretch costs speech nuclei j (j + 1)) (l .j) most noCost _ (l .gap) (l .inv .1 .gapped) (omega arith) (c .before .between .ensures);
+        stopped = table-more (λ j. stretch costs speech nuclei j size) (l .j) most noCost _ (l .stop) (l .inv .1 .stopped) (omega arith) (c .between2 .ensures);
       },
     )
 

@@ -1,9 +1,7 @@
 -- The counts before the boundaries give the costs between them.
-use Prim.Native.Nat.{ℕ, _≤_}
 use native.Mathlib.Omega.{arith}
-use lib.ListN.{getD}
-use Rattle.stages.specs.Tables.{beyond}
-use Rattle.stages.proofs.Stage.{kept-orderly, array-climbs, array-ends, speech-ascends, places-ascend, all-few, fills}
+use Rattle.paths.specs.Anchors.{keptIn}
+use Rattle.stages.proofs.Stage.{Orderly, Placing, kept-orderly, array-climbs, array-ends, speech-ascends, places-ascend, all-few, fills}
 use borrow.Author.Needs.{needs}
 use Rattle.stages.proofs.filler.stage_filler.Statement.{statement}
 use Rattle.stages.proofs.filler.stage_filler.Tie as tie
@@ -14,17 +12,29 @@ kept-anchors-requires c κs = search needs
 slice-aggregate-places : tie.Need-slice-aggregate-places
 slice-aggregate-places c = search needs
 
+orderly : (c : tie.After-kept-anchors) →
+    let args = c .before .before .before .before .args in
+    Orderly (args .mask .now) (keptIn (args .mask .now) 0 (args .nuclei .now))
+orderly c =
+    let args = c .before .before .before .before .args in
+    kept-orderly (args .mask .now) 0 (args .nuclei .now) (c .before .before .before .before .pre .0 .framed) (c .before .before .before .before .pre .1)
+
 places-requires : tie.Need-places-requires
 places-requires c κs =
-    let args = c .before .before .before .before .before .before .args in
-    let pre = c .before .before .before .before .before .before .pre in
-    let kept = c .before .before .kept-anchors in
-    let orderly = kept-orderly (args .mask .now) 0 (args .nuclei .now) (pre .0 .framed) (pre .1) in (
-      array-climbs (args .mask .now) _ orderly (kept .result .frames) (kept .ensures .framed),
-      array-ends (args .mask .now) _ orderly (kept .result .frames) (kept .ensures .framed),
-      pre .0 .listed .short,
-      pre .0 .listed .ascending,
-    )
+    let kept = c .before .before in
+    let fit = c .before .before .before .before .before .before .pre .0 .listed in
+    (array-climbs (orderly kept) (kept .kept-anchors .ensures .framed), array-ends (orderly kept) (kept .kept-anchors .ensures .framed), fit .short, fit .ascending)
+
+placing : (c : tie.After-places) →
+    let args = c .before .before .before .before .before .before .before .args in
+    Placing (args .mask .now) (keptIn (args .mask .now) 0 (args .nuclei .now)) (c .before .before .before .kept-anchors .result .frames) (args .bounds .now) (c .places .result)
+placing c = record {
+  orderly = orderly (c .before .before .before);
+  framed = c .before .before .before .kept-anchors .ensures .framed;
+  fit = c .before .before .before .before .before .before .before .pre .0;
+  small = λ j. omega (arith, c .before .before .before .before .shared-slice-known3 .given j);
+  placed = c .places .ensures;
+}
 
 speech-before-requires : tie.Need-speech-before-requires
 speech-before-requires c κs = search needs
@@ -37,30 +47,11 @@ slice-aggregate-filler-costs-2 c = search needs
 
 filler-costs-requires : tie.Need-filler-costs-requires
 filler-costs-requires c κs =
-    let args = c .before .before .before .before .before .before .before .before .before .before .args in
-    let pre = c .before .before .before .before .before .before .before .before .before .before .pre in
-    let kept = c .before .before .before .before .before .before .kept-anchors in
-    let orderly = kept-orderly (args .mask .now) 0 (args .nuclei .now) (pre .0 .framed) (pre .1) in
-    let small : (j : ℕ) → getD (args .bounds .now) j 0 ≤ beyond = λ j. omega (arith, c .before .before .before .before .before .before .before .shared-slice-known3 .given j) in
-    let places = c .before .before .before .places in (
-      pre .0 .listed .short,
-      speech-ascends (args .mask .now) _ orderly (kept .result .frames) (kept .ensures .framed) (args .bounds .now) (pre .0) small (places .result) (places .ensures)
-          (c .before .before .speech-before .result) (c .before .before .speech-before .ensures),
-      places-ascend (args .mask .now) _ orderly (kept .result .frames) (kept .ensures .framed) (args .bounds .now) (pre .0) small (places .result) (places .ensures),
-      all-few (args .mask .now) _ orderly (kept .result .frames) (kept .ensures .framed) (args .bounds .now) (pre .0) small (places .result) (places .ensures),
-    )
+    let p = placing (c .before .before .before) in
+    (c .before .before .before .before .before .before .before .before .before .before .pre .0 .listed .short, speech-ascends p (c .before .before .speech-before .ensures), places-ascend p, all-few p)
 
 returns : tie.Need-returns
-returns c =
-    let args = c .before .before .before .before .before .before .before .before .before .before .before .args in
-    let pre = c .before .before .before .before .before .before .before .before .before .before .before .pre in
-    let kept = c .before .before .before .before .before .before .before .kept-anchors in
-    let orderly = kept-orderly (args .mask .now) 0 (args .nuclei .now) (pre .0 .framed) (pre .1) in
-    let small : (j : ℕ) → getD (args .bounds .now) j 0 ≤ beyond = λ j. omega (arith, c .before .before .before .before .before .before .before .before .shared-slice-known3 .given j) in
-    let places = c .before .before .before .before .places in
-    let filler = c .filler-costs in
-    fills (args .mask .now) _ orderly (kept .result .frames) (kept .ensures .framed) (args .bounds .now) (pre .0) small (places .result) (places .ensures)
-    (c .before .before .before .speech-before .result) (c .before .before .before .speech-before .ensures) (args .costs) (filler .result .start) (filler .result .gap) (filler .result .stop) (filler .ensures)
+returns c = fills (placing (c .before .before .before .before)) (c .before .before .before .speech-before .ensures) (c .filler-costs .ensures)
 
 pub stage-filler-spec : {M : Type 1} → statement M
 stage-filler-spec =

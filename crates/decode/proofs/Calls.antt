@@ -1,0 +1,71 @@
+-- What the check of a call says of it: refused by which rule, or accepted with buffers that are long enough.
+use Prim.Native.Nat.{ℕ, _*_, _≤_}
+use mathlib.Core.Bool.{Bool, true, false, _||_, cond}
+use mathlib.Core.List.{List}
+use mathlib.Core.Option.{Option, none, some, Option·some-ne-none}
+use mathlib.Core.Path.{_≡_, refl, sym, subst, _∙_}
+use borrow.Author.Tests.{ltb-false}
+use lib.Dec.{T, ltb}
+use lib.ListN.{length}
+use Rattle.record.specs.Edition.{edition1}
+use Rattle.record.specs.Layout.{layoutOf}
+use Rattle.record.specs.Conditions.{shortDesk}
+use Rattle.record.specs.Refusals.{refusalOf, refusalWith, checkedWith}
+use Rattle.record.specs.Meaning.{phraseAt, phraseOf}
+use Rattle.record.specs.Accepted.{Laid}
+use Rattle.record.specs.declared.layout.Layout.{Layout}
+use Rattle.record.specs.declared.refusal.Refusal.{Refusal}
+use Rattle.record.specs.declared.refusal.Refusal.the-variants.{Desk}
+use Rattle.record.specs.declared.refusal.Checked.the-variants.{Refused, Accepted}
+use Rattle.record.proofs.Below.{length-listed}
+use Rattle.record.proofs.Answers.{given, accepts, refused-first, desk-last}
+
+neither : (a b c : Bool) → (a || b || c) ≡ false → (a ≡ false) × (b ≡ false) × (c ≡ false)
+neither true b c e = absurd (subst T e tt)
+neither false true c e = absurd (subst T e tt)
+neither false false c e = (refl, refl, e)
+
+-- M by the layout is M by the phrase
+pub candidates-counted : (bytes : List ℕ) → length (phraseOf bytes .candidates) ≡ layoutOf bytes .candidates .count
+unfolding phraseOf phraseAt
+candidates-counted bytes = length-listed _ (layoutOf bytes .candidates .count)
+
+-- an accepted call: its record is laid out, and its buffers, of so many elements, are long enough
+pub record AcceptedCall (bytes : List ℕ) (best back out : ℕ) (at : Layout) : Type 0 where
+  pub none-given : refusalWith bytes best back out ≡ none
+  pub laid : Laid bytes at
+  pub values : edition1 .«work_cells» ≤ best
+  pub marks : edition1 .«work_cells» ≤ back
+  pub words : length (phraseOf bytes .candidates) * edition1 .«entry_words» ≤ out
+
+module _ (bytes : List ℕ) (best back out : ℕ) where
+  -- a record that is accepted with lent buffers is one that no rule of its own refuses
+  pub own-rules : refusalWith bytes best back out ≡ none → refusalOf bytes ≡ none
+  own-rules accepted = go (refusalOf bytes) refl
+    where
+      go : (o : Option Refusal) → refusalOf bytes ≡ o → refusalOf bytes ≡ none
+      go none e = e
+      go (some q) e = absurd (Option·some-ne-none q (sym (refused-first bytes best back out q e) ∙ accepted))
+
+  long-enough : refusalWith bytes best back out ≡ none → shortDesk edition1 (layoutOf bytes .candidates .count) best back out ≡ false
+  long-enough accepted = go (shortDesk edition1 (layoutOf bytes .candidates .count) best back out) (sym (desk-last bytes best back out (own-rules accepted)) ∙ accepted)
+    where
+      go : (short : Bool) → cond short (some Desk) none ≡ none → short ≡ false
+      go true e = absurd (Option·some-ne-none Desk e)
+      go false e = refl
+
+  pub refused-call : (q : Refusal) → checkedWith bytes best back out ≡ Refused q → refusalWith bytes best back out ≡ some q
+  refused-call q e = given (refusalWith bytes best back out) (layoutOf bytes) q e
+
+  pub accepted-call : (at : Layout) → checkedWith bytes best back out ≡ Accepted at → AcceptedCall bytes best back out at
+  accepted-call at e =
+      let h = accepts (refusalWith bytes best back out) (layoutOf bytes) at e in
+      let count = layoutOf bytes .candidates .count in
+      let long = neither (ltb best (edition1 .«work_cells»)) (ltb back (edition1 .«work_cells»)) (ltb out (count * edition1 .«entry_words»)) (long-enough (h .0)) in
+      record {
+        none-given = h .0;
+        laid = record { accepted = own-rules (h .0); layout = h .1 };
+        values = ltb-false best (edition1 .«work_cells») (long .0);
+        marks = ltb-false back (edition1 .«work_cells») (long .1);
+        words = subst (λ (m : ℕ). m * edition1 .«entry_words» ≤ out) (sym (candidates-counted bytes)) (ltb-false out (count * edition1 .«entry_words») (long .2));
+      }

@@ -1,0 +1,2 @@
+-- A law that several functions cite.
+mod Counting
