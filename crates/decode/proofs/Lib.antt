@@ -5,6 +5,13 @@ mod Units
 pub mod Demands
 pub mod Decodes
 pub mod OneOutcome
+mod Placing
+mod Fronts
+mod Reporting
+mod Plans
+mod Scoring
+mod InTurn
+mod Cleared
 mod Group
 mod Examples
 mod ShutOut

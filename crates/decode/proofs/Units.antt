@@ -19,7 +19,7 @@ unfolding reportAfter
 length-reportAfter low [] = refl
 length-reportAfter low (unit ∷ later) = ap suc (length-reportAfter _ later)
 
-length-reported : (units : List Placed) → length (reported units) ≡ length units
+pub length-reported : (units : List Placed) → length (reported units) ≡ length units
 unfolding reported
 length-reported [] = refl
 length-reported (unit ∷ later) = length-reportAfter _ (unit ∷ later)
@@ -31,7 +31,7 @@ length-zip held [] spans e = refl
 length-zip held (unit ∷ units) [] e = e
 length-zip held (unit ∷ units) (span ∷ spans) e = ap suc (length-zip held units spans (omega arith))
 
-length-reportedIn : (phrase : Phrase) (stage : Stage) (units : List Bounds) → length (reportedIn phrase stage units) ≡ length units
+pub length-reportedIn : (phrase : Phrase) (stage : Stage) (units : List Bounds) → length (reportedIn phrase stage units) ≡ length units
 unfolding reportedIn
 length-reportedIn phrase stage units =
     length-zip (heldBy phrase stage) units _ (length-reported (map (placed phrase stage) units) ∙ length-map units (placed phrase stage))

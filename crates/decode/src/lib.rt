@@ -1,3 +1,8 @@
 // Decoding: from a phrase record to its result words. What it promises is in specs/Contract.antt.
 
 pub mod answer;
+pub mod decode;
+pub mod entry;
+pub mod missed;
+pub mod plan;
+pub mod report;

@@ -1,0 +1,131 @@
+-- The units that the look-ahead tables place are the ones to report.
+use Prim.Native.Nat.{ℕ, zero, suc, _+_, _-_, _≤_, _<_}
+use mathlib.Core.Bool.{Bool, true, false, not, cond, _&&_}
+use mathlib.Core.List.{List, [], _∷_, _++_, map}
+use mathlib.Core.Path.{_≡_, refl, sym, ap, ap₂, subst, _∙_}
+use native.Mathlib.Omega.{arith}
+use borrow.Author.Tests.{lt-ltb, le-ltb, ne-eqb}
+use lib.Dec.{T, ltb, leb, eqb, ltb→lt, nltb→le, leb→le, eqb→eq}
+use lib.ListN.{length, getD}
+use Rattle.phrase.specs.Phrase.{Phrase, Stage}
+use Rattle.paths.specs.declared.passes.Strictness.{Strictness}
+use Rattle.paths.specs.declared.passes.Strictness.the-variants.{Strict, Relaxed}
+use Rattle.paths.specs.Frames.{Increasing}
+use Rattle.paths.specs.Anchors.{Anchor, kept, heldIn}
+use Rattle.paths.specs.Units.{fitsUnit, mayHold, admitsUnit}
+use Rattle.paths.specs.LookAhead.{firstAhead, secondAhead, rowAhead, rowOr}
+use Rattle.paths.specs.StageProblem.{boundary}
+use Rattle.paths.specs.Marks.{Bounds}
+use Rattle.paths.proofs.LookAhead.{Rising, kept-rising, holds-none, holds-one, holds-more}
+use Rattle.stages.specs.Tables.{beyond}
+use Rattle.evidence.specs.Spans.{spanOf}
+use Rattle.evidence.specs.declared.evidence.Span as Evidence
+use Rattle.clip.specs.Clip.{Placed, anchored, unanchored, given}
+use Rattle.clip.specs.declared.clip.Span.{Span}
+use Rattle.entries.specs.Entry.{noRow}
+use Rattle.decode.specs.declared.report.PlacedUnit.{PlacedUnit}
+use Rattle.decode.specs.Report.{lowEdge, highEdge, rowSpan, heldBy, placedBy, placed}
+use Rattle.decode.specs.Places.{placeOf}
+
+-- what a unit is placed as, by the anchors that it holds
+abbrev pub placeFor : Phrase → Stage → Bounds → List Anchor → PlacedUnit
+placeFor phrase stage unit anchors =
+    let span = given (placedBy phrase stage unit anchors) in
+    record { start = span .start; end = span .end; row = rowOr noRow anchors }
+
+abbrev pub placeIn : Phrase → Stage → Bounds → PlacedUnit
+placeIn phrase stage unit = placeFor phrase stage unit (heldBy phrase stage unit)
+
+-- a unit that a stage admits, in a strict or a relaxed pass
+pub record UnitOk (phrase : Phrase) (stage : Stage) (strictness : Strictness) (unit : Bounds) : Type 0 where
+  pub forward : unit .first < unit .last
+  pub inside : unit .last < length (stage .boundaries)
+  pub admitted : T (admitsUnit strictness (kept phrase stage) (boundary stage (unit .first)) (boundary stage (unit .last)))
+
+right-half : (a b : Bool) → T (a && b) → T b
+right-half true b t = t
+right-half false b t = absurd t
+
+held-few : (strictness : Strictness) (n : ℕ) → T (mayHold strictness n) → n ≤ 1
+held-few Strict n t = omega (arith, eqb→eq n 1 t)
+held-few Relaxed n t = leb→le n 1 t
+
+module _ (phrase : Phrase) (stage : Stage) (up : Increasing (stage .anchors)) (last : (i : ℕ) → i < length (stage .boundaries) → boundary stage i ≤ beyond) where
+  module _ {strictness : Strictness} {unit : Bounds} (ok : UnitOk phrase stage strictness unit) where
+    abbrev from : ℕ
+    from = boundary stage (unit .first)
+
+    abbrev to : ℕ
+    to = boundary stage (unit .last)
+
+    abbrev ahead : ℕ
+    ahead = firstAhead beyond (kept phrase stage) from
+
+    few : length (heldBy phrase stage unit) ≤ 1
+    unfolding admitsUnit
+    few = held-few strictness _ (right-half (fitsUnit (to - from)) _ (ok .admitted))
+
+    no-second : to ≤ secondAhead beyond (kept phrase stage) from
+    no-second = go (ltb (secondAhead beyond (kept phrase stage) from) to) (ltb→lt _ to) (nltb→le _ to)
+      where
+        go : (b : Bool) → (T b → secondAhead beyond (kept phrase stage) from < to) → (T (not b) → to ≤ secondAhead beyond (kept phrase stage) from)
+            → to ≤ secondAhead beyond (kept phrase stage) from
+        go true less more =
+            absurd (omega (arith, few, holds-more (kept-rising (phrase .mask) (stage .firstRow) (stage .anchors) up) beyond from to (last _ (ok .inside)) (less tt)))
+        go false less more = more tt
+
+    -- what holds of no anchor where the first ahead is not before the end, and else of that one, holds of the anchors held
+    pub held-either : (P : List Anchor → Type 0) → (to ≤ ahead → P []) → (ahead < to → P (record { frame = ahead; row = rowAhead 0 (kept phrase stage) from } ∷ []))
+        → P (heldBy phrase stage unit)
+    held-either P none one = go (ltb ahead to) (ltb→lt ahead to) (nltb→le ahead to)
+      where
+        rising : Rising 0 (kept phrase stage)
+        rising = kept-rising (phrase .mask) (stage .firstRow) (stage .anchors) up
+
+        go : (b : Bool) → (T b → ahead < to) → (T (not b) → to ≤ ahead) → P (heldBy phrase stage unit)
+        go true less more = subst P (sym (holds-one rising beyond from to (last _ (ok .inside)) 0 (less tt) no-second)) (one (less tt))
+        go false less more = subst P (sym (holds-none rising beyond from to (last _ (ok .inside)) (more tt))) (none (more tt))
+
+    pub placed-by-tables :
+        placeOf (stage .anchors) (stage .boundaries) (lowEdge (phrase .speech)) (highEdge (phrase .speech)) from to ahead (rowAhead 0 (kept phrase stage) from)
+        ≡ placeIn phrase stage unit
+    unfolding placeOf placedBy rowSpan
+    placed-by-tables =
+        held-either (λ anchors. place (ltb ahead to) ≡ placeFor phrase stage unit anchors)
+        (λ h. ap place (le-ltb ahead to h))
+        (λ h. ap place (lt-ltb ahead to h))
+      where
+        span : Evidence.Span
+        span = spanOf (stage .anchors) (stage .boundaries) (lowEdge (phrase .speech)) (highEdge (phrase .speech)) ahead
+
+        place : Bool → PlacedUnit
+        place b = cond b (record { start = span .start; end = span .end; row = rowAhead 0 (kept phrase stage) from }) (record { start = from; end = to; row = noRow })
+
+    -- the row says whether there is an anchor
+    pub told-by-row : rowAhead 0 (kept phrase stage) from < noRow →
+        let place = placeIn phrase stage unit in
+        let span : Span = record { start = place .start; end = place .end } in
+        cond (eqb (place .row) noRow) (unanchored span) (anchored span) ≡ placed phrase stage unit
+    unfolding placedBy
+    told-by-row below =
+        held-either (λ anchors.
+        let place = placeFor phrase stage unit anchors in
+        let span : Span = record { start = place .start; end = place .end } in
+        cond (eqb (place .row) noRow) (unanchored span) (anchored span) ≡ placedBy phrase stage unit anchors)
+        (λ h. refl)
+        (λ h. ap (λ (b : Bool). cond b (unanchored (rowSpan phrase stage ahead)) (anchored (rowSpan phrase stage ahead))) (ne-eqb (rowAhead 0 (kept phrase stage) from) noRow (λ e. omega arith)))
+
+-- ---- a unit with its anchor, and one without
+
+module _ (anchors bounds : List ℕ) (lo hi from to ahead row : ℕ) where
+  abbrev either : Evidence.Span → Bool → PlacedUnit
+  either span b = cond b (record { start = span .start; end = span .end; row = row }) (record { start = from; end = to; row = noRow })
+
+  pub place-anchored : {span : Evidence.Span} → span ≡ spanOf anchors bounds lo hi ahead → ahead < to
+      → record { start = span .start; end = span .end; row = row } ≡ placeOf anchors bounds lo hi from to ahead row
+  unfolding placeOf
+  place-anchored e h = ap (λ (s : Evidence.Span). either s true) e ∙ ap (either (spanOf anchors bounds lo hi ahead)) (sym (lt-ltb ahead to h))
+
+  pub place-bare : to ≤ ahead → record { start = from; end = to; row = noRow } ≡ placeOf anchors bounds lo hi from to ahead row
+  unfolding placeOf
+  place-bare h = ap (either (spanOf anchors bounds lo hi ahead)) (sym (le-ltb ahead to h))

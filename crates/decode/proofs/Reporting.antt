@@ -1,0 +1,313 @@
+-- From the arrays that the code fills to the units that are to be reported.
+use Prim.Native.Nat.{ℕ, zero, suc, _+_, _-_, _≤_, _<_}
+use mathlib.Core.Bool.{Bool, true, false, not, cond}
+use mathlib.Core.List.{List, [], _∷_, _++_, map, zipWith}
+use mathlib.Core.Path.{_≡_, refl, sym, ap, ap₂, subst, _∙_}
+use native.Mathlib.Omega.{arith}
+use borrow.Author.Tests.{ne-eqb}
+use lib.Dec.{T, eqb, ltb, ltb→lt, nltb→le}
+use lib.ListN.{length, getD, take, replicate, length-map, length-replicate, getD-replicate, List·getD-append, length-append}
+use lib.Seq.{ext-getD, getD-append-seam, getD-take, length-take-le}
+use Rattle.phrase.specs.Phrase.{Phrase, Stage}
+use Rattle.paths.specs.declared.passes.Strictness.{Strictness}
+use Rattle.paths.specs.Frames.{Increasing}
+use Rattle.paths.specs.Anchors.{Anchor, kept, heldIn}
+use Rattle.paths.specs.LookAhead.{firstAhead, rowAhead, rowOr}
+use Rattle.paths.specs.Problem.{Problem}
+use Rattle.paths.specs.StageProblem.{boundary, problemOf}
+use Rattle.paths.specs.Marks.{Bounds}
+use Rattle.paths.proofs.PathUnits.{InOrder, no-units, later-end, one-more}
+use Rattle.stages.specs.declared.tables.StageTables.{StageTables}
+use Rattle.stages.specs.Tables.{Tabled, beyond}
+use Rattle.stages.specs.Listed.{padded, listed, tableOf}
+use Rattle.stages.specs.Made.{tablesOf}
+use Rattle.stages.proofs.Listed.{length-listed, listed-at, padded-in, length-padded, table-at, length-table}
+use Rattle.rows.specs.declared.trace.Units.{Units}
+use Rattle.rows.specs.Traced.{firstsOf, lastsOf, UnitsAre}
+use Rattle.prepare.specs.declared.side.Side.{Side}
+use Rattle.prepare.specs.declared.side.Listed.{Listed}
+use Rattle.prepare.specs.Sides.{SideOf}
+use Rattle.prepare.proofs.Lists.{its-length, its-front}
+use Rattle.clip.specs.Clip.{Placed, anchored, unanchored, given, reported, startsOf, endsOf}
+use Rattle.clip.specs.Units.{unitAt, unitsFrom, unitsOf}
+use Rattle.clip.specs.declared.clip.Span.{Span}
+use Rattle.entries.specs.Entry.{ReportedUnit, noRow}
+use Rattle.entries.specs.EntryFrom as Entries
+use Rattle.decode.specs.declared.report.PlacedUnit.{PlacedUnit}
+use Rattle.decode.specs.declared.report.Reported.{Reported}
+use Rattle.decode.specs.Report.{lowEdge, highEdge, heldBy, placedBy, placed, reportedUnit, reportedIn}
+use Rattle.decode.specs.Places.{placeOf, placeAt, Placeable, placedList, ReportedAll, missedAt, unitless, Holds}
+use Rattle.decode.proofs.Units.{length-reported, length-reportedIn}
+use Rattle.decode.proofs.Placing.{placeIn, UnitOk, placed-by-tables, told-by-row}
+
+-- ---- the units of an entry are those that the arrays hold
+
+module _ (r : Reported) where
+  from-arrays : (us : List ReportedUnit) (i : ℕ)
+      → ((j : ℕ) → j < length us → getD (r .starts) (i + j) 0 ≡ getD us j unitless .start)
+      → ((j : ℕ) → j < length us → getD (r .ends) (i + j) 0 ≡ getD us j unitless .end)
+      → ((j : ℕ) → j < length us → getD (r .rows) (i + j) 0 ≡ getD us j unitless .row)
+      → Entries.unitsFrom (r .starts) (r .ends) (r .rows) (length us) i ≡ us
+  unfolding Entries.unitsFrom
+  from-arrays [] i starts ends rows = refl
+  from-arrays (u ∷ us) i starts ends rows =
+      let here : i ≡ i + 0 = omega arith in
+      let some : 0 < suc (length us) = omega arith in
+      ap₂ (λ (x : ReportedUnit) (xs : List ReportedUnit). x ∷ xs)
+      (λ t. record {
+        start = (ap (λ (n : ℕ). getD (r .starts) n 0) here ∙ starts 0 some) t;
+        end = (ap (λ (n : ℕ). getD (r .ends) n 0) here ∙ ends 0 some) t;
+        row = (ap (λ (n : ℕ). getD (r .rows) n 0) here ∙ rows 0 some) t;
+      })
+      (from-arrays us (suc i)
+      (λ j h. let e : suc i + j ≡ i + suc j = omega arith in ap (λ (n : ℕ). getD (r .starts) n 0) e ∙ starts (suc j) (omega arith))
+      (λ j h. let e : suc i + j ≡ i + suc j = omega arith in ap (λ (n : ℕ). getD (r .ends) n 0) e ∙ ends (suc j) (omega arith))
+      (λ j h. let e : suc i + j ≡ i + suc j = omega arith in ap (λ (n : ℕ). getD (r .rows) n 0) e ∙ rows (suc j) (omega arith)))
+
+pub held-units : {units : List ReportedUnit} {r : Reported} → Holds units r → Entries.unitsFrom (r .starts) (r .ends) (r .rows) (length units) 0 ≡ units
+held-units {units} {r} h =
+    from-arrays r units 0
+    (λ j below. let e : 0 + j ≡ j = omega arith in ap (λ (n : ℕ). getD (r .starts) n 0) e ∙ h .starts j below)
+    (λ j below. let e : 0 + j ≡ j = omega arith in ap (λ (n : ℕ). getD (r .ends) n 0) e ∙ h .ends j below)
+    (λ j below. let e : 0 + j ≡ j = omega arith in ap (λ (n : ℕ). getD (r .rows) n 0) e ∙ h .rows j below)
+
+pub missed-hold : (k at : ℕ) → k ≤ 16 → Holds (replicate k (record { start = at; end = at; row = noRow })) (missedAt at)
+missed-hold k at few =
+    let unit : ReportedUnit = record { start = at; end = at; row = noRow } in
+    let long = length-replicate k unit in
+    record {
+      few = omega (arith, long);
+      starts = λ i h. getD-replicate 16 i at 0 (omega (arith, long)) ∙ sym (ap (λ (u : ReportedUnit). u .start) (getD-replicate k i unit unitless (omega (arith, long))));
+      ends = λ i h. getD-replicate 16 i at 0 (omega (arith, long)) ∙ sym (ap (λ (u : ReportedUnit). u .end) (getD-replicate k i unit unitless (omega (arith, long))));
+      rows = λ i h. getD-replicate 16 i noRow 0 (omega (arith, long)) ∙ sym (ap (λ (u : ReportedUnit). u .row) (getD-replicate k i unit unitless (omega (arith, long))));
+      startsLong = length-replicate 16 at;
+      endsLong = length-replicate 16 at;
+      rowsLong = length-replicate 16 noRow;
+    }
+
+-- ---- lists by index
+
+getD-map : {A B : Type 0} (f : A → B) (xs : List A) (i : ℕ) (d : A) → getD (map f xs) i (f d) ≡ f (getD xs i d)
+getD-map f [] i d = refl
+getD-map f (x ∷ xs) zero d = refl
+getD-map f (x ∷ xs) (suc i) d = getD-map f xs i d
+
+listed-map : {A : Type 0} (f : ℕ → ℕ) (g : A → ℕ) (xs : List A) (d : A) → ((i : ℕ) → i < length xs → f i ≡ g (getD xs i d)) → listed f (length xs) ≡ map g xs
+listed-map f g xs d same =
+    ext-getD (g d) _ _ (length-listed f (length xs) ∙ sym (length-map xs g))
+    (λ i h. let below : i < length xs = omega (arith, length-listed f (length xs)) in listed-at f (length xs) (g d) i below ∙ same i below ∙ sym (getD-map g xs i d))
+
+-- ---- each unit of a path is admitted
+
+abbrev pub noBounds : Bounds
+noBounds = record { first = 0; last = 0 }
+
+module _ (phrase : Phrase) (stage : Stage) (strictness : Strictness) (columns : List ℕ) where
+  pub each-ok : {us : List Bounds} {j : ℕ} → InOrder (problemOf phrase stage strictness columns) us j
+      → (i : ℕ) → i < length us → UnitOk phrase stage strictness (getD us i noBounds)
+  each-ok no-units i h = absurd (omega arith)
+  each-ok (later-end o l) i h = each-ok o i h
+  each-ok (one-more {us = us} {i = a} {j = b} o less below ok) i h = go (ltb i (length us)) (ltb→lt i (length us)) (nltb→le i (length us)) (λ before. each-ok o i before)
+    where
+      unit : Bounds
+      unit = record { first = a; last = b }
+
+      go : (earlier : Bool) → (T earlier → i < length us) → (T (not earlier) → length us ≤ i)
+          → (i < length us → UnitOk phrase stage strictness (getD us i noBounds)) → UnitOk phrase stage strictness (getD (us ++ (unit ∷ [])) i noBounds)
+      go true inside outside known = subst (UnitOk phrase stage strictness) (sym (List·getD-append us (unit ∷ []) noBounds i (inside tt))) (known (inside tt))
+      go false inside outside known =
+          let e : i ≡ length us = omega (arith, outside tt, length-append us (unit ∷ [])) in
+          subst (UnitOk phrase stage strictness) (sym (ap (λ (n : ℕ). getD (us ++ (unit ∷ [])) n noBounds) e ∙ getD-append-seam us unit [] noBounds))
+          (record { forward = less; inside = below; admitted = ok })
+
+-- ---- units in arrays, one by one
+
+module _ (starts ends rows : List ℕ) (s e r : ℕ) where
+  units-shift : (i n : ℕ) → unitsFrom (s ∷ starts) (e ∷ ends) (r ∷ rows) (suc i) n ≡ unitsFrom starts ends rows i n
+  unfolding unitsFrom
+  units-shift i zero = refl
+  units-shift i (suc n) =
+      let next : suc i + 1 ≡ suc (i + 1) = omega arith in
+      ap (λ (us : List Placed). unitAt starts ends rows i ∷ us)
+      (ap (λ (m : ℕ). unitsFrom (s ∷ starts) (e ∷ ends) (r ∷ rows) m n) next ∙ units-shift (i + 1) n)
+
+module _ (place : Bounds → PlacedUnit) (unit : Bounds → Placed) where
+  abbrev Tells : Bounds → Type 0
+  Tells b = let span : Span = record { start = place b .start; end = place b .end } in cond (eqb (place b .row) noRow) (unanchored span) (anchored span) ≡ unit b
+
+  units-all : (bs : List Bounds) → ((i : ℕ) → i < length bs → Tells (getD bs i noBounds))
+      → unitsFrom (map (λ b. place b .start) bs) (map (λ b. place b .end) bs) (map (λ b. place b .row) bs) 0 (length bs) ≡ map unit bs
+  unfolding unitsFrom
+  units-all [] told = refl
+  units-all (b ∷ bs) told =
+      ap₂ (λ (u : Placed) (us : List Placed). u ∷ us) (told 0 (omega arith)) (units-shift _ _ _ _ _ _ 0 (length bs) ∙ units-all bs (λ i h. told (suc i) (omega arith)))
+
+  units-map : (bs : List Bounds) → ((i : ℕ) → i < length bs → Tells (getD bs i noBounds))
+      → unitsOf (map (λ b. place b .start) bs) (map (λ b. place b .end) bs) (map (λ b. place b .row) bs) ≡ map unit bs
+  units-map bs told =
+      ap (unitsFrom (map (λ b. place b .start) bs) (map (λ b. place b .end) bs) (map (λ b. place b .row) bs) 0) (length-map bs (λ b. place b .row)) ∙ units-all bs told
+
+-- ---- what is reported, by index
+
+abbrev noSpan : Span
+noSpan = record { start = 0; end = 0 }
+
+module _ (held : Bounds → List Anchor) where
+  zip-start : (bs : List Bounds) (spans : List Span) → length spans ≡ length bs → (i : ℕ) → i < length bs
+      → getD (zipWith reportedUnit (map held bs) spans) i unitless .start ≡ getD spans i noSpan .start
+  unfolding zipWith
+  zip-start [] spans e i h = absurd (omega arith)
+  zip-start (b ∷ bs) [] e i h = absurd (omega arith)
+  zip-start (b ∷ bs) (x ∷ xs) e zero h = refl
+  zip-start (b ∷ bs) (x ∷ xs) e (suc i) h = zip-start bs xs (omega arith) i (omega arith)
+
+  zip-end : (bs : List Bounds) (spans : List Span) → length spans ≡ length bs → (i : ℕ) → i < length bs
+      → getD (zipWith reportedUnit (map held bs) spans) i unitless .end ≡ getD spans i noSpan .end
+  unfolding zipWith
+  zip-end [] spans e i h = absurd (omega arith)
+  zip-end (b ∷ bs) [] e i h = absurd (omega arith)
+  zip-end (b ∷ bs) (x ∷ xs) e zero h = refl
+  zip-end (b ∷ bs) (x ∷ xs) e (suc i) h = zip-end bs xs (omega arith) i (omega arith)
+
+  zip-row : (bs : List Bounds) (spans : List Span) → length spans ≡ length bs → (i : ℕ) → i < length bs
+      → getD (zipWith reportedUnit (map held bs) spans) i unitless .row ≡ rowOr noRow (held (getD bs i noBounds))
+  unfolding zipWith
+  zip-row [] spans e i h = absurd (omega arith)
+  zip-row (b ∷ bs) [] e i h = absurd (omega arith)
+  zip-row (b ∷ bs) (x ∷ xs) e zero h = refl
+  zip-row (b ∷ bs) (x ∷ xs) e (suc i) h = zip-row bs xs (omega arith) i (omega arith)
+
+-- ---- the units of a path through a stage
+
+-- what is known of a side and a path's units
+pub record Found (phrase : Phrase) (stage : Stage) (strictness : Strictness) (side : Side) (units : Units) (bs : List Bounds) : Type 0 where
+  pub sided : SideOf phrase stage side
+  pub are : UnitsAre units bs
+  pub few : length bs ≤ 16
+  pub fewAnchors : length (stage .anchors) ≤ 64
+  pub fewBoundaries : length (stage .boundaries) ≤ 64
+  pub up : Increasing (stage .anchors)
+  pub last : (i : ℕ) → i < length (stage .boundaries) → boundary stage i ≤ beyond
+  pub rows : (i : ℕ) → i < length (stage .boundaries) → rowAhead 0 (kept phrase stage) (boundary stage i) < noRow
+  pub ok : (i : ℕ) → i < length bs → UnitOk phrase stage strictness (getD bs i noBounds)
+
+module _ {phrase : Phrase} {stage : Stage} {strictness : Strictness} {side : Side} {units : Units} {bs : List Bounds} (f : Found phrase stage strictness side units bs) where
+  abbrev t : StageTables
+  t = side .tables
+
+  abbrev lo : ℕ
+  lo = lowEdge (phrase .speech)
+
+  abbrev hi : ℕ
+  hi = highEdge (phrase .speech)
+
+  abbrev tabled : Tabled phrase stage t
+  tabled = f .sided .tables .tabled
+
+  abbrev unit : ℕ → Bounds
+  unit i = getD bs i noBounds
+
+  first-is : (i : ℕ) → i < length bs → getD (units .first) i 0 ≡ unit i .first
+  first-is i h =
+      ap (λ (l : List ℕ). getD l i 0) (f .are .firsts)
+      ∙ List·getD-append (firstsOf bs) _ 0 i (omega (arith, length-map bs (λ (b : Bounds). b .first)))
+      ∙ getD-map (λ (b : Bounds). b .first) bs i noBounds
+
+  last-is : (i : ℕ) → i < length bs → getD (units .last) i 0 ≡ unit i .last
+  last-is i h =
+      ap (λ (l : List ℕ). getD l i 0) (f .are .lasts)
+      ∙ List·getD-append (lastsOf bs) _ 0 i (omega (arith, length-map bs (λ (b : Bounds). b .last)))
+      ∙ getD-map (λ (b : Bounds). b .last) bs i noBounds
+
+  in-tables : (i : ℕ) → i < length bs → unit i .last < t .size
+  in-tables i h = omega (arith, f .ok i h .inside, tabled .sized)
+
+  bounds-long : length (t .bounds) ≡ 64
+  unfolding tablesOf
+  bounds-long = ap (λ (x : StageTables). length (x .bounds)) (f .sided .tables .exact) ∙ length-table _ _ 64 0 (f .fewBoundaries)
+
+  ahead-long : length (t .first) ≡ 64
+  unfolding tablesOf
+  ahead-long = ap (λ (x : StageTables). length (x .first)) (f .sided .tables .exact) ∙ length-table _ _ 64 0 (f .fewBoundaries)
+
+  rows-long : length (t .row) ≡ 64
+  unfolding tablesOf
+  rows-long = ap (λ (x : StageTables). length (x .row)) (f .sided .tables .exact) ∙ length-table _ _ 64 0 (f .fewBoundaries)
+
+  units-long : (numbers : List ℕ) → length numbers ≡ length bs → length (numbers ++ replicate (16 - length numbers) 0) ≡ 16
+  units-long numbers e = length-append numbers _ ∙ omega (arith, length-replicate {A = ℕ} (16 - length numbers) 0, f .few)
+
+  pub placeable : Placeable side units (length bs)
+  placeable = record {
+    few = f .few;
+    firsts = ap length (f .are .firsts) ∙ units-long (firstsOf bs) (length-map bs (λ (b : Bounds). b .first));
+    lasts = ap length (f .are .lasts) ∙ units-long (lastsOf bs) (length-map bs (λ (b : Bounds). b .last));
+    frames = its-length (f .sided .anchors) (f .fewAnchors);
+    bounds = bounds-long;
+    ahead = ahead-long;
+    rows = rows-long;
+    anchors = omega (arith, f .sided .anchors .counted, f .fewAnchors);
+    size = omega (arith, tabled .sized, f .fewBoundaries);
+    begins = λ i h. omega (arith, first-is i h, f .ok i h .forward, in-tables i h, tabled .sized, f .fewBoundaries);
+    ends = λ i h. omega (arith, last-is i h, in-tables i h, tabled .sized, f .fewBoundaries);
+  }
+
+  bounds-front : take (t .size) (t .bounds) ≡ stage .boundaries
+  bounds-front =
+      let long = length-take-le (t .size) (t .bounds) (omega (arith, bounds-long, tabled .sized, f .fewBoundaries)) in
+      ext-getD 0 _ _ (long ∙ tabled .sized)
+      (λ i h. let below : i < t .size = omega (arith, long) in getD-take (t .size) (t .bounds) i 0 below ∙ tabled .bounded i below)
+
+  place-is : (i : ℕ) → i < length bs → placeAt side lo hi units i ≡ placeIn phrase stage (unit i)
+  place-is i h =
+      let inside : unit i .last < t .size = in-tables i h in
+      let before : unit i .first < t .size = omega (arith, f .ok i h .forward) in
+      let from = ap (λ (n : ℕ). getD (t .bounds) n 0) (first-is i h) ∙ tabled .bounded _ before in
+      let to = ap (λ (n : ℕ). getD (t .bounds) n 0) (last-is i h) ∙ tabled .bounded _ inside in
+      let ahead = ap (λ (n : ℕ). getD (t .first) n 0) (first-is i h) ∙ tabled .firsts _ before in
+      let row = ap (λ (n : ℕ). getD (t .row) n 0) (first-is i h) ∙ tabled .rows _ before in
+      (λ x. placeOf (its-front (f .sided .anchors) x) (bounds-front x) lo hi (from x) (to x) (ahead x) (row x))
+      ∙ placed-by-tables phrase stage (f .up) (f .last) (f .ok i h)
+
+  abbrev place : Bounds → PlacedUnit
+  place b = placeIn phrase stage b
+
+  abbrev spans : List Span
+  spans = reported (map (placed phrase stage) bs)
+
+  placed-is : placedList side lo hi units (length bs) ≡ map (placed phrase stage) bs
+  placed-is =
+      (λ x. unitsOf
+      (listed-map _ (λ b. place b .start) bs noBounds (λ i h. ap (λ (p : PlacedUnit). p .start) (place-is i h)) x)
+      (listed-map _ (λ b. place b .end) bs noBounds (λ i h. ap (λ (p : PlacedUnit). p .end) (place-is i h)) x)
+      (listed-map _ (λ b. place b .row) bs noBounds (λ i h. ap (λ (p : PlacedUnit). p .row) (place-is i h)) x))
+      ∙ units-map place (placed phrase stage) bs
+      (λ i h. told-by-row phrase stage (f .up) (f .last) (f .ok i h) (f .rows _ (omega (arith, f .ok i h .forward, f .ok i h .inside))))
+
+  spans-long : length spans ≡ length bs
+  spans-long = length-reported (map (placed phrase stage) bs) ∙ length-map bs (placed phrase stage)
+
+  pub reports : {r : Reported} → ReportedAll side lo hi units (length bs) r → Holds (reportedIn phrase stage bs) r
+  unfolding reportedIn
+  reports {r} all =
+      let long = length-reportedIn phrase stage bs in
+      let starts : r .starts ≡ padded (startsOf spans) 16 0 = all .starts ∙ ap (λ (us : List Placed). padded (startsOf (reported us)) 16 0) placed-is in
+      let ends : r .ends ≡ padded (endsOf spans) 16 0 = all .ends ∙ ap (λ (us : List Placed). padded (endsOf (reported us)) 16 0) placed-is in
+      let startsAre = length-map spans (λ (x : Span). x .start) in
+      let endsAre = length-map spans (λ (x : Span). x .end) in
+      record {
+        few = omega (arith, long, f .few);
+        starts = λ i h.
+            ap (λ (l : List ℕ). getD l i 0) starts ∙ padded-in (startsOf spans) 16 0 0 i (omega (arith, long, startsAre, spans-long))
+            ∙ getD-map (λ (x : Span). x .start) spans i noSpan ∙ sym (zip-start (heldBy phrase stage) bs spans spans-long i (omega (arith, long)));
+        ends = λ i h.
+            ap (λ (l : List ℕ). getD l i 0) ends ∙ padded-in (endsOf spans) 16 0 0 i (omega (arith, long, endsAre, spans-long))
+            ∙ getD-map (λ (x : Span). x .end) spans i noSpan ∙ sym (zip-end (heldBy phrase stage) bs spans spans-long i (omega (arith, long)));
+        rows = λ i h.
+            let below : i < length bs = omega (arith, long) in
+            ap (λ (l : List ℕ). getD l i 0) (all .rows) ∙ table-at _ (length bs) 16 0 0 i below
+            ∙ ap (λ (p : PlacedUnit). p .row) (place-is i below) ∙ sym (zip-row (heldBy phrase stage) bs spans spans-long i below);
+        startsLong = ap length starts ∙ length-padded (startsOf spans) 16 0 (omega (arith, startsAre, spans-long, f .few));
+        endsLong = ap length ends ∙ length-padded (endsOf spans) 16 0 (omega (arith, endsAre, spans-long, f .few));
+        rowsLong = ap length (all .rows) ∙ length-table _ (length bs) 16 0 (f .few);
+      }

@@ -1,0 +1,286 @@
+-- From what the search says of a candidate to its entry.
+use Prim.Native.Nat.{ℕ, suc, _+_, _≤_, _<_, _^_}
+use mathlib.Core.Bool.{Bool, true, false, not, cond, _||_}
+use mathlib.Core.List.{List, [], _∷_}
+use mathlib.Core.Path.{_≡_, refl, sym, ap, subst, subst⁻¹, _∙_}
+use native.Mathlib.Omega.{arith}
+use borrow.Author.Tests.{eq-eqb}
+use lib.Dec.{T, eqb}
+use lib.ListN.{length, getD, length-replicate}
+use lib.Ieee.{Float, isNan}
+use Rattle.ieee.specs.Convert.{ClampedLog, clampedLog}
+use Rattle.phrase.specs.Phrase.{Phrase, Stage, Candidate}
+use Rattle.paths.specs.declared.passes.Strictness.{Strictness}
+use Rattle.paths.specs.declared.passes.Pass.{Pass}
+use Rattle.paths.specs.declared.passes.Pass.the-variants.{NucleiStrict, CountStrict, CountRelaxed, NucleiRelaxed}
+use Rattle.paths.specs.Problem.{Problem}
+use Rattle.paths.specs.Path.{Path, count, Admitted}
+use Rattle.paths.specs.Passes.{passNumber, passProblem, nonEmpty, inOrder}
+use Rattle.paths.specs.Demand as D
+use Rattle.paths.specs.Demand.{Answer, answerNumber}
+use Rattle.paths.specs.Search.{chosen}
+use Rattle.paths.specs.StageProblem.{problemOf}
+use Rattle.paths.specs.Marks.{Bounds, unitsOf}
+use Rattle.paths.proofs.PathUnits.{units-count, units-in-order}
+use Rattle.stages.specs.Tables.{beyond}
+use Rattle.rows.specs.declared.trace.Units.{Units}
+use Rattle.rows.specs.Traced.{UnitsAre}
+use Rattle.closed.specs.declared.search.Answer as Code
+use Rattle.closed.specs.declared.search.Answer.the-variants.{Found, None, Unvoiced}
+use Rattle.closed.specs.declared.search.Searched.{Searched}
+use Rattle.closed.specs.Answered.{Says, numberOf, passStage, passStrictness}
+use Rattle.closed.specs.Asked.{columnsOf}
+use Rattle.closed.proofs.Bridge.{readable}
+use Rattle.record.specs.Edition.{edition1}
+use Rattle.record.specs.Meaning.{phraseOf}
+use Rattle.record.specs.Accepted.{Laid, CandidateFit}
+use Rattle.record.specs.Reading.{stageOf, candidateOf}
+use Rattle.record.specs.declared.layout.Section.{Section}
+use Rattle.record.specs.declared.layout.Layout.{Layout}
+use Rattle.record.specs.declared.read.Which.{Which}
+use Rattle.record.specs.declared.read.Which.the-variants.{Nuclei, Count}
+use Rattle.record.proofs.Accepted.{fit}
+use Rattle.prepare.specs.declared.side.Side.{Side}
+use Rattle.prepare.specs.Sides.{SideOf}
+use Rattle.prepare.proofs.Parts.{few-anchors, few-boundaries, anchors-fit, boundaries-fit, mask-fits, rows-fit}
+use Rattle.entries.specs.Entry.{ReportedUnit, Entry, noRow}
+use Rattle.entries.specs.EntryFrom.{unitsFrom, entryFrom}
+use Rattle.entries.specs.declared.words.EntryHead.{EntryHead}
+use Rattle.decode.specs.declared.plan.Plan.{Plan}
+use Rattle.decode.specs.declared.report.Reported.{Reported}
+use Rattle.decode.specs.declared.entry.Scored.{Scored}
+use Rattle.decode.specs.Report.{lowEdge, highEdge, reportedIn, reportedUnits}
+use Rattle.decode.specs.Report as Report
+use Rattle.decode.specs.EntryOf.{missedTotal, missedUnits, totalOf, unitsFor, entryFor, entryBy, entryOf}
+use Rattle.decode.specs.Places.{Placeable, ReportedAll, missedAt, missedBy, Holds}
+use Rattle.decode.specs.Plans.{PlanOf}
+use Rattle.decode.specs.Scored.{sideFor, MissedEntry, ScoredAs}
+use Rattle.decode.proofs.Demands.{answered}
+use Rattle.decode.proofs.Units.{length-reportedIn}
+use Rattle.decode.proofs.Reporting as Reporting
+
+-- ---- what the code's answer says of the answer
+
+record FoundPath (a : Answer) (r : Searched) (pass : Pass) (total : Float) : Type 0 where
+  path : Path
+  is : a ≡ D.found pass path total
+  units : UnitsAre (r .units) (unitsOf path)
+
+apart : {A : Type 0} → _≡_ {A = ℕ} 0 1 → A
+apart e = absurd (omega arith)
+
+says-found : (a : Answer) {r : Searched} {pass : Pass} {total : Float} → Says a r → r .answer ≡ Found pass total → FoundPath a r pass total
+says-found (D.found pass path total) {pass = pass′} {total = total′} says e =
+    let same : pass ≡ pass′ = cc in
+    let sums : total ≡ total′ = cc in
+    record { path = path; is = λ i. D.found (same i) path (sums i); units = says .1 }
+says-found D.none says e = apart (cc)
+says-found D.unvoiced says e = apart (cc)
+
+says-none : (a : Answer) (r : Searched) → Says a r → r .answer ≡ None → a ≡ D.none
+says-none (D.found pass path total) r says e = apart (cc)
+says-none D.none r says e = refl
+says-none D.unvoiced r says e = apart (cc)
+
+says-unvoiced : (a : Answer) (r : Searched) → Says a r → r .answer ≡ Unvoiced → a ≡ D.unvoiced
+says-unvoiced (D.found pass path total) r says e = apart (cc)
+says-unvoiced D.none r says e = apart (cc)
+says-unvoiced D.unvoiced r says e = refl
+
+-- ---- a pass that is tried is in the order
+
+has : Pass → List Pass → Bool
+has pass [] = false
+has pass (other ∷ others) = eqb (passNumber pass) (passNumber other) || has pass others
+
+true-or : (a b : Bool) → T a → T (a || b)
+true-or true b t = tt
+true-or false b t = absurd t
+
+or-true : (a b : Bool) → T b → T (a || b)
+or-true true b t = tt
+or-true false b t = t
+
+first-there : {phrase : Phrase} {columns : List ℕ} {pass : Pass} {passes : List Pass} → D.FirstOf phrase columns pass passes → T (has pass passes)
+unfolding has
+first-there {pass = pass} (D.here {later = later} admits) = true-or (eqb (passNumber pass) (passNumber pass)) (has pass later) (subst T (sym (eq-eqb (passNumber pass) (passNumber pass) refl)) tt)
+first-there {pass = pass} (D.after {earlier = earlier} {later = later} none rest) = or-true (eqb (passNumber pass) (passNumber earlier)) (has pass later) (first-there rest)
+
+-- the added stage's passes are tried only where there is one
+counted : (b : Bool) → T (has CountStrict (NucleiStrict ∷ cond b (CountStrict ∷ CountRelaxed ∷ []) (NucleiRelaxed ∷ []))) → b ≡ true
+unfolding has
+counted true t = refl
+counted false t = absurd t
+
+relaxed : (b : Bool) → T (has CountRelaxed (NucleiStrict ∷ cond b (CountStrict ∷ CountRelaxed ∷ []) (NucleiRelaxed ∷ []))) → b ≡ true
+unfolding has
+relaxed true t = refl
+relaxed false t = absurd t
+
+same-stage : (phrase : Phrase) (pass : Pass) → passStage phrase pass ≡ Report.stageOf phrase pass
+same-stage phrase NucleiStrict = refl
+same-stage phrase CountStrict = refl
+same-stage phrase CountRelaxed = refl
+same-stage phrase NucleiRelaxed = refl
+
+-- ---- the path's units, in the stage of its pass
+
+module _ {bytes : List ℕ} {at : Layout} (h : Laid bytes at) where
+  abbrev phrase : Phrase
+  phrase = phraseOf bytes
+
+  boundaries-last : (which : Which) (i : ℕ) → i < length (stageOf which phrase .boundaries) → getD (stageOf which phrase .boundaries) i 0 ≤ beyond
+  boundaries-last Nuclei i below = omega (arith, fit h .nuclei .boundaries .last i below)
+  boundaries-last Count i below = omega (arith, fit h .added .boundaries .last i below)
+
+  rows-below : (which : Which) → stageOf which phrase .firstRow + length (stageOf which phrase .anchors) ≤ noRow
+  rows-below which = omega (arith, rows-fit h which)
+
+  found-in : (which : Which) (strictness : Strictness) (columns : List ℕ) {side : Side} {units : Units} {path : Path}
+      → SideOf phrase (stageOf which phrase) side → UnitsAre units (unitsOf path) → length (unitsOf path) ≤ 16
+      → Admitted (problemOf phrase (stageOf which phrase) strictness columns) path
+      → Reporting.Found phrase (stageOf which phrase) strictness side units (unitsOf path)
+  found-in which strictness columns {side = side} sided are few admitted =
+      let stage = stageOf which phrase in
+      let tabled = sided .tables .tabled in
+      record {
+        sided = sided;
+        are = are;
+        few = few;
+        fewAnchors = few-anchors h which;
+        fewBoundaries = few-boundaries h which;
+        up = anchors-fit h which .ascending;
+        last = boundaries-last which;
+        rows = λ i below.
+            let inside : i < side .tables .size = omega (arith, tabled .sized) in
+            subst (λ (n : ℕ). n < noRow) (tabled .rows i inside)
+            (readable phrase stage (side .tables) tabled (anchors-fit h which .ascending) (boundaries-fit h which .ascending) (few-boundaries h which) (boundaries-last which)
+            (omega (arith, mask-fits h)) noRow (omega arith) (rows-below which) .rows i inside);
+        ok = Reporting.each-ok phrase stage strictness columns (units-in-order admitted);
+      }
+
+  module _ {plan : Plan} (planned : PlanOf phrase plan) {candidate : ℕ} (below : candidate < length (phrase .candidates)) where
+    abbrev chosenOne : Candidate
+    chosenOne = candidateOf phrase candidate
+
+    abbrev columns : List ℕ
+    columns = columnsOf bytes candidate
+
+    fits : CandidateFit (edition1 .units) (at .scores .count) chosenOne
+    fits = fit h .candidates candidate _ below
+
+    pub few-units : length columns ≤ 16
+    few-units = fits .fewUnits
+
+    demanded : D.Demanded phrase columns (chosen phrase columns)
+    demanded = answered bytes (h .accepted) (subst (λ (x : Layout). CandidateFit (edition1 .units) (x .scores .count) chosenOne) (h .layout) fits)
+
+    module _ (searched : Searched) (says : Says (chosen phrase columns) searched) where
+      module _ {pass : Pass} {total : Float} (e : searched .answer ≡ Found pass total) where
+        abbrev it : FoundPath (chosen phrase columns) searched pass total
+        it = says-found (chosen phrase columns) says e
+
+        found-there : {a : Answer} → D.Demanded phrase columns a → (path : Path) → a ≡ D.found pass path total → D.Found phrase columns pass path total
+        found-there {a} d path is = go (subst (D.Demanded phrase columns) is d)
+          where
+            go : D.Demanded phrase columns (D.found pass path total) → D.Found phrase columns pass path total
+            go (D.a-path f) = f
+
+        abbrev shown : D.Found phrase columns pass (it .path) total
+        shown = found-there demanded (it .path) (it .is)
+
+        units-few : length (unitsOf (it .path)) ≡ length columns
+        units-few = units-count (it .path) ∙ shown .best .counted
+
+        few : length (unitsOf (it .path)) ≤ 16
+        few = omega (arith, units-few, few-units)
+
+        path-found : Reporting.Found phrase (passStage phrase pass) (passStrictness pass) (sideFor plan pass) (searched .units) (unitsOf (it .path))
+        path-found = go pass (it .path) (it .units) few (shown .best .admitted) (shown .first)
+          where
+            go : (pass : Pass) (path : Path) → UnitsAre (searched .units) (unitsOf path) → length (unitsOf path) ≤ 16
+                → Admitted (passProblem phrase pass columns) path → D.FirstOf phrase columns pass (inOrder phrase)
+                → Reporting.Found phrase (passStage phrase pass) (passStrictness pass) (sideFor plan pass) (searched .units) (unitsOf path)
+            go NucleiStrict path are few admitted first = found-in Nuclei _ columns (planned .nuclei) are few admitted
+            go CountStrict path are few admitted first =
+                found-in Count _ columns (planned .added .there (counted (nonEmpty (phrase .added .anchors)) (first-there first))) are few admitted
+            go CountRelaxed path are few admitted first =
+                found-in Count _ columns (planned .added .there (relaxed (nonEmpty (phrase .added .anchors)) (first-there first))) are few admitted
+            go NucleiRelaxed path are few admitted first = found-in Nuclei _ columns (planned .nuclei) are few admitted
+
+        pub can-place : {side : Side} {k : ℕ} → side ≡ sideFor plan pass → k ≡ length columns → Placeable side (searched .units) k
+        can-place {side} {k} s counted =
+            subst⁻¹ (λ (x : Side). Placeable x (searched .units) k) s
+            (subst⁻¹ (Placeable (sideFor plan pass) (searched .units)) (counted ∙ sym units-few) (Reporting.placeable path-found))
+
+        module _ {side : Side} {k id number : ℕ} {llr : Float} {units : Reported}
+            (s : side ≡ sideFor plan pass) (counted : k ≡ length columns) (named : id ≡ chosenOne .id) (numbered : number ≡ numberOf (searched .answer))
+            (clamped : ClampedLog total llr) (all : ReportedAll side (plan .«lo_edge») (plan .«hi_edge») (searched .units) k units) where
+          holds : Holds (reportedIn phrase (passStage phrase pass) (unitsOf (it .path))) units
+          holds =
+              Reporting.reports path-found
+              (subst (λ (n : ℕ). ReportedAll (sideFor plan pass) (lowEdge (phrase .speech)) (highEdge (phrase .speech)) (searched .units) n units) (counted ∙ sym units-few)
+              (subst (λ (n : ℕ). ReportedAll (sideFor plan pass) (lowEdge (phrase .speech)) n (searched .units) k units) (planned .high)
+              (subst (λ (n : ℕ). ReportedAll (sideFor plan pass) n (plan .«hi_edge») (searched .units) k units) (planned .low)
+              (subst (λ (x : Side). ReportedAll x (plan .«lo_edge») (plan .«hi_edge») (searched .units) k units) s all))))
+
+          units-are : unitsFrom (units .starts) (units .ends) (units .rows) k 0 ≡ reportedUnits phrase pass (it .path)
+          units-are =
+              ap (λ (n : ℕ). unitsFrom (units .starts) (units .ends) (units .rows) n 0)
+              (counted ∙ sym units-few ∙ sym (length-reportedIn phrase (passStage phrase pass) (unitsOf (it .path))))
+              ∙ Reporting.held-units holds ∙ ap (λ (x : Stage). reportedIn phrase x (unitsOf (it .path))) (same-stage phrase pass)
+
+          pub scored-found : ScoredAs (entryOf phrase chosenOne) (record { head = record { id = id; llr = llr; pass = number; units = k }; units = units })
+          unfolding entryBy entryFor
+          scored-found =
+              subst⁻¹ (λ (a : Answer). ScoredAs (entryFor phrase chosenOne a) (record { head = record { id = id; llr = llr; pass = number; units = k }; units = units })) (it .is)
+              (record {
+                whole = λ i. record { id = named i; pass = (numbered ∙ ap numberOf e) i; total = total; llr = clamped .value i; units = units-are i };
+                number = clamped .comparable .number;
+                few = omega (arith, few-units);
+                starts = holds .startsLong;
+                ends = holds .endsLong;
+                rows = holds .rowsLong;
+              })
+
+      -- no path, by one of two words
+      scored-missed : (a : Answer) → chosen phrase columns ≡ a → totalOf phrase (length columns) a ≡ missedTotal phrase (length columns)
+          → unitsFor phrase (length columns) a ≡ missedUnits phrase (length columns)
+          → {k id number : ℕ} {r : Scored} → k ≡ length columns → id ≡ chosenOne .id → number ≡ answerNumber a
+          → MissedEntry id k number (plan .costs .unvoiced) (plan .«lo_edge») r → ScoredAs (entryOf phrase chosenOne) r
+      unfolding entryBy entryFor
+      scored-missed a is totals spans {k} {id} {number} {r} counted named numbered missed =
+          let lo : plan .«lo_edge» ≡ lowEdge (phrase .speech) = planned .low in
+          let held : Holds (missedUnits phrase (length columns)) (missedAt (lowEdge (phrase .speech))) = Reporting.missed-hold (length columns) (lowEdge (phrase .speech)) few-units in
+          let arrays : r .units ≡ missedAt (lowEdge (phrase .speech)) = missed .units ∙ ap missedAt lo in
+          let holds : Holds (missedUnits phrase (length columns)) (r .units) = subst⁻¹ (Holds (missedUnits phrase (length columns))) arrays held in
+          let k-is : r .head .units ≡ length columns = ap (λ (x : EntryHead). x .units) (missed .head) ∙ counted in
+          let units-are : unitsFrom (r .units .starts) (r .units .ends) (r .units .rows) (r .head .units) 0 ≡ unitsFor phrase (length columns) a =
+          ap (λ (n : ℕ). unitsFrom (r .units .starts) (r .units .ends) (r .units .rows) n 0) (k-is ∙ sym (length-replicate (length columns) _)) ∙ Reporting.held-units holds ∙ sym spans in
+          let llr-is : r .head .llr ≡ clampedLog (totalOf phrase (length columns) a) =
+          ap (λ (x : EntryHead). x .llr) (missed .head) ∙ (λ i. clampedLog (missedBy (counted i) (planned .costs i .unvoiced))) ∙ ap clampedLog (sym totals) in
+          subst⁻¹ (λ (b : Answer). ScoredAs (entryFor phrase chosenOne b) r) is
+          (record {
+            whole = λ i. record {
+              id = (ap (λ (x : EntryHead). x .id) (missed .head) ∙ named) i;
+              pass = (ap (λ (x : EntryHead). x .pass) (missed .head) ∙ numbered) i;
+              total = totalOf phrase (length columns) a;
+              llr = llr-is i;
+              units = units-are i;
+            };
+            number = missed .number;
+            few = omega (arith, k-is, few-units);
+            starts = holds .startsLong;
+            ends = holds .endsLong;
+            rows = holds .rowsLong;
+          })
+
+      pub scored-none : searched .answer ≡ None → {k id number : ℕ} {r : Scored} → k ≡ length columns → id ≡ chosenOne .id → number ≡ numberOf (searched .answer)
+          → MissedEntry id k number (plan .costs .unvoiced) (plan .«lo_edge») r → ScoredAs (entryOf phrase chosenOne) r
+      scored-none e counted named numbered missed =
+          scored-missed D.none (says-none (chosen phrase columns) searched says e) refl refl counted named (numbered ∙ ap numberOf e) missed
+
+      pub scored-unvoiced : searched .answer ≡ Unvoiced → {k id number : ℕ} {r : Scored} → k ≡ length columns → id ≡ chosenOne .id → number ≡ numberOf (searched .answer)
+          → MissedEntry id k number (plan .costs .unvoiced) (plan .«lo_edge») r → ScoredAs (entryOf phrase chosenOne) r
+      scored-unvoiced e counted named numbered missed =
+          scored-missed D.unvoiced (says-unvoiced (chosen phrase columns) searched says e) refl refl counted named (numbered ∙ ap numberOf e) missed

@@ -1,0 +1,88 @@
+-- A refused call changes nothing; an accepted one clears the work areas, and writes the entries of all candidates.
+use mathlib.Core.Path.{sym, _∙_}
+use native.Mathlib.Omega.{arith}
+use lib.ListN.{length}
+use Rattle.record.specs.Edition.{edition1}
+use Rattle.record.proofs.Accepted.{counts}
+use Rattle.record.proofs.Reading.{candidate-count}
+use Rattle.decode.proofs.Calls.{refused-call, accepted-call}
+use Rattle.decode.proofs.Decodes.{decodes-refused, decodes-accepted}
+use Rattle.decode.proofs.Cleared.{unused-cleared}
+use borrow.Author.Needs.{needs}
+use Rattle.decode.proofs.decode.decode.Statement.{statement}
+use Rattle.decode.proofs.decode.decode.Tie as tie
+
+check-areas-requires : tie.Need-check-areas-requires
+check-areas-requires c κs = search needs
+
+enum-known-checked : tie.Need-enum-known-checked
+enum-known-checked c = search needs
+
+enum-known-checked-2 : tie.Need-enum-known-checked-2
+enum-known-checked-2 c = search needs
+
+clear-requires : tie.Need-clear-requires
+clear-requires c κs =
+    let a = c .before .before .before .before .before .before .before .before .before .before .args in
+    let ok = accepted-call (a .«record» .now) (length (a .best .now)) (length (a .back .now)) (length (a .out .now)) _ (sym (c .before .before .before .before .before .check-areas .ensures) ∙ c .before .before .before .checked2 .given .1) in
+    (ok .values, ok .marks)
+
+plan-of-requires : tie.Need-plan-of-requires
+plan-of-requires c κs =
+    let a = c .before .before .before .before .before .before .before .before .before .before .before .before .before .before .before .args in
+    let ok = accepted-call (a .«record» .now) (length (a .best .now)) (length (a .back .now)) (length (a .out .now)) _ (sym (c .before .before .before .before .before .before .before .before .before .before .check-areas .ensures) ∙ c .before .before .before .before .before .before .before .before .checked2 .given .1) in
+    ok .laid
+
+put-candidates-requires : tie.Need-put-candidates-requires
+put-candidates-requires c κs =
+    let a = c .before .before .before .before .before .before .before .before .before .before .before .before .before .before .before .before .before .before .before .args in
+    let ok = accepted-call (a .«record» .now) (length (a .best .now)) (length (a .back .now)) (length (a .out .now)) _ (sym (c .before .before .before .before .before .before .before .before .before .before .before .before .before .before .check-areas .ensures) ∙ c .before .before .before .before .before .before .before .before .before .before .before .before .checked2 .given .1) in
+    let cleared = c .before .before .before .before .before .before .before .before .clear .ensures in
+    (ok .laid, (c .before .before .before .plan-of .ensures, (unused-cleared (a .best .now) (a .back .now) (edition1 .«work_cells») (cleared .0) (cleared .1) (ok .values) (ok .marks), ok .words)))
+
+cast-t24 : tie.Need-cast-t24
+cast-t24 c =
+    let a = c .before .before .before .before .before .before .before .before .before .before .before .before .before .before .before .before .before .before .before .before .before .before .before .before .before .before .before .args in
+    let ok = accepted-call (a .«record» .now) (length (a .best .now)) (length (a .back .now)) (length (a .out .now)) _ (sym (c .before .before .before .before .before .before .before .before .before .before .before .before .before .before .before .before .before .before .before .before .before .before .check-areas .ensures) ∙ c .before .before .before .before .before .before .before .before .before .before .before .before .before .before .before .before .before .before .before .before .checked2 .given .1) in
+    omega (arith, counts (ok .laid) .candidates)
+
+returns : tie.Need-returns
+returns c =
+    let a = c .before .before .before .before .before .before .before .before .args in
+    decodes-refused (a .«record» .now) (a .best .now) (a .back .now) (a .out .now) _
+    (refused-call (a .«record» .now) (length (a .best .now)) (length (a .back .now)) (length (a .out .now)) _ (sym (c .before .before .before .check-areas .ensures) ∙ c .before .checked .given .1))
+
+same-length : tie.Need-same-length
+same-length c = search needs
+
+same-length-2 : tie.Need-same-length-2
+same-length-2 c = search needs
+
+same-length-3 : tie.Need-same-length-3
+same-length-3 c = search needs
+
+returns-2 : tie.Need-returns-2
+returns-2 c =
+    let a = c .before .before .before .before .before .before .before .before .before .before .before .before .before .before .before .before .before .before .before .before .before .before .before .before .before .before .before .args in
+    let ok = accepted-call (a .«record» .now) (length (a .best .now)) (length (a .back .now)) (length (a .out .now)) _ (sym (c .before .before .before .before .before .before .before .before .before .before .before .before .before .before .before .before .before .before .before .before .before .before .check-areas .ensures) ∙ c .before .before .before .before .before .before .before .before .before .before .before .before .before .before .before .before .before .before .before .before .checked2 .given .1) in
+    let cleared = c .before .before .before .before .before .before .before .before .before .before .before .before .before .before .before .before .clear .ensures in
+    let put = c .before .before .before .before .before .before .before .put-candidates .ensures in
+    decodes-accepted (a .«record» .now) (a .best .now) (a .back .now) (a .out .now) _ (ok .none-given) (sym (candidate-count (ok .laid)))
+    (put .0) (put .1 .0 ∙ cleared .0) (put .1 .1 ∙ cleared .1)
+
+pub decode-spec : {M : Type 1} → statement M
+decode-spec =
+    tie.close
+    (tie.spec
+    check-areas-requires
+    enum-known-checked
+    enum-known-checked-2
+    clear-requires
+    plan-of-requires
+    put-candidates-requires
+    cast-t24
+    returns
+    same-length
+    same-length-2
+    same-length-3
+    returns-2)

@@ -1,0 +1,28 @@
+// The entry point: from a record and lent memory to result words.
+
+use crate::answer::Decoded;
+use crate::entry::put_candidates;
+use crate::plan::plan_of;
+use record::check::check_areas;
+use record::refusal::Checked;
+use rows::clear::clear;
+ghost use Rattle.decode.specs.Contract.{Decodes};
+
+// How many f64 and u32 of the work areas are used.
+const WORK_CELLS: usize = 1088;
+
+// Decodes the record into `out`, one entry for each candidate, best first. Nothing is written before every check is passed.
+pub fn decode(record: &[u8], best: &mut [f64], back: &mut [u32], out: &mut [u32]) -> Decoded
+    ensures { λ r. ⌜ Decodes (now («record» .entry)) (now (best .entry)) (now (back .entry)) (now (out .entry)) r (now (best .exit)) (now (back .exit)) (now (out .exit)) ⌝ }
+{
+    let checked = check_areas(record, best.len(), back.len(), out.len());
+    match checked {
+        Checked::Refused(refusal) => Decoded::Refused(refusal),
+        Checked::Accepted(at) => {
+            clear(best, back, WORK_CELLS);
+            let plan = plan_of(record, at);
+            put_candidates(best, back, record, at, plan, out);
+            Decoded::Entries(at.candidates.count as u32)
+        }
+    }
+}

@@ -1,0 +1,170 @@
+// The entry of one candidate, after `Decoder::score` of closed.rs.
+
+use crate::missed::missed_total;
+use crate::missed::missed_units;
+use crate::plan::Plan;
+use crate::report::Reported;
+use crate::report::reported_units;
+use closed::search::Answer;
+use closed::search::Searched;
+use closed::search::Task;
+use closed::search::search;
+use entries::ranking::insert_entry;
+use entries::words::EntryHead;
+use ieee::convert::clamp_log;
+use paths::passes::Pass;
+use prepare::side::Side;
+use record::layout::Layout;
+use record::read;
+ghost use mathlib.Core.List.{_++_};
+ghost use mathlib.Core.Path.{_≡_};
+ghost use Prim.Native.Nat.{_+_, _*_, _≤_, _<_};
+ghost use lib.ListN.{length, drop};
+ghost use Rattle.closed.specs.Answered.{Says};
+ghost use Rattle.closed.specs.Asked.{columnsOf, Unused};
+ghost use Rattle.entries.specs.Placing.{Inserted};
+ghost use Rattle.entries.specs.Ranking.{ranked};
+ghost use Rattle.entries.specs.Words.{allWords};
+ghost use Rattle.paths.specs.Search.{chosen};
+ghost use Rattle.record.specs.Edition.{edition1};
+ghost use Rattle.record.specs.Meaning.{phraseOf};
+ghost use Rattle.record.specs.Accepted.{Laid};
+ghost use Rattle.record.specs.Reading.{candidateOf};
+ghost use Rattle.decode.specs.EntryOf.{entryOf, entriesOf};
+ghost use Rattle.decode.specs.Plans.{PlanOf};
+ghost use Rattle.decode.specs.Scored.{sideFor, MissedEntry, ScoredAs};
+
+// An entry, not yet at its rank. Its units are the first of `units`.
+pub struct Scored {
+    pub head: EntryHead,
+    pub units: Reported,
+}
+
+// The stage that a pass searches.
+fn side_for(plan: Plan, pass: Pass) -> Side
+    ensures { λ r. ⌜ r ≡ sideFor plan pass ⌝ }
+{
+    match pass {
+        Pass::NucleiStrict => plan.nuclei,
+        Pass::CountStrict => plan.added,
+        Pass::CountRelaxed => plan.added,
+        Pass::NucleiRelaxed => plan.nuclei,
+    }
+}
+
+// "No path: f32 k × unvoiced, widened, clamped", and empty spans where speech starts.
+fn missed_entry(id: u32, k: usize, pass: u32, unvoiced: f32, at: u32) -> Scored
+    requires { ⌜ k ≤ 16 ⌝ }
+    ensures { λ r. ⌜ MissedEntry id k pass unvoiced at r ⌝ }
+{
+    let llr = clamp_log(missed_total(k, unvoiced));
+    let head = EntryHead {
+        id,
+        llr,
+        pass,
+        units: k,
+    };
+    let units = missed_units(at);
+    Scored { head, units }
+}
+
+fn score_candidate(
+    bytes: &[u8],
+    at: Layout,
+    plan: Plan,
+    candidate: usize,
+    searched: Searched,
+) -> Scored
+    requires { ⌜ Laid (now bytes) at ⌝ }
+    requires { ⌜ candidate < length (phraseOf (now bytes) .candidates) ⌝ }
+    requires { ⌜ PlanOf (phraseOf (now bytes)) plan ⌝ }
+    requires { ⌜ Says (chosen (phraseOf (now bytes)) (columnsOf (now bytes) candidate)) searched ⌝ }
+    ensures { λ r. ⌜ ScoredAs (entryOf (phraseOf (now (bytes .entry))) (candidateOf (phraseOf (now (bytes .entry))) candidate)) r ⌝ }
+{
+    let id = read::id(bytes, at, candidate);
+    let k = read::units(bytes, at, candidate);
+    let answer = searched.answer;
+    let path = searched.units;
+    let pass = answer.number();
+    match answer {
+        Answer::Found(found, sum) => {
+            let side = side_for(plan, found);
+            let units = reported_units(path, k, side, plan.lo_edge, plan.hi_edge);
+            let llr = clamp_log(sum);
+            let head = EntryHead {
+                id,
+                llr,
+                pass,
+                units: k,
+            };
+            Scored { head, units }
+        }
+        Answer::None => missed_entry(id, k, pass, plan.costs.unvoiced, plan.lo_edge),
+        Answer::Unvoiced => missed_entry(id, k, pass, plan.costs.unvoiced, plan.lo_edge),
+    }
+}
+
+// One more candidate: its entry goes to its rank among those before it. The work areas end as they came.
+fn put_candidate(
+    best: &mut [f64],
+    back: &mut [u32],
+    bytes: &[u8],
+    at: Layout,
+    plan: Plan,
+    candidate: usize,
+    out: &mut [u32],
+)
+    requires { ⌜ Laid (now bytes) at ⌝ }
+    requires { ⌜ candidate < length (phraseOf (now bytes) .candidates) ⌝ }
+    requires { ⌜ PlanOf (phraseOf (now bytes)) plan ⌝ }
+    requires { ⌜ Unused (now best) (now back) (edition1 .«work_cells») ⌝ }
+    requires { ⌜ (candidate + 1) * edition1 .«entry_words» ≤ length (now out) ⌝ }
+    ensures { λ _. ⌜ Inserted (edition1 .units) candidate (entryOf (phraseOf (now (bytes .entry))) (candidateOf (phraseOf (now (bytes .entry))) candidate)) (now (out .entry)) (now (out .exit)) ⌝ }
+    ensures { λ _. ⌜ (now (best .exit) ≡ now (best .entry)) × (now (back .exit) ≡ now (back .entry)) ⌝ }
+{
+    let nuclei = plan.nuclei;
+    let added = plan.added;
+    let costs = plan.costs;
+    let task = Task {
+        at,
+        costs,
+        candidate,
+    };
+    let searched = search(
+        best,
+        back,
+        bytes,
+        task,
+        nuclei.tables,
+        added.tables,
+        plan.runs,
+    );
+    let entry = score_candidate(bytes, at, plan, candidate, searched);
+    let units = entry.units;
+    let starts = units.starts;
+    let ends = units.ends;
+    let rows = units.rows;
+    insert_entry(out, candidate, entry.head, &starts, &ends, &rows);
+}
+
+// Every candidate of the record, in its order.
+pub fn put_candidates(
+    best: &mut [f64],
+    back: &mut [u32],
+    bytes: &[u8],
+    at: Layout,
+    plan: Plan,
+    out: &mut [u32],
+)
+    requires { ⌜ Laid (now bytes) at ⌝ }
+    requires { ⌜ PlanOf (phraseOf (now bytes)) plan ⌝ }
+    requires { ⌜ Unused (now best) (now back) (edition1 .«work_cells») ⌝ }
+    requires { ⌜ length (phraseOf (now bytes) .candidates) * edition1 .«entry_words» ≤ length (now out) ⌝ }
+    ensures { λ _. ⌜ now (out .exit) ≡ allWords (edition1 .units) (ranked (entriesOf (phraseOf (now (bytes .entry))))) ++ drop (length (phraseOf (now (bytes .entry)) .candidates) * edition1 .«entry_words») (now (out .entry)) ⌝ }
+    ensures { λ _. ⌜ (now (best .exit) ≡ now (best .entry)) × (now (back .exit) ≡ now (back .entry)) ⌝ }
+{
+    let count = at.candidates.count;
+    for candidate in 0..count {
+        put_candidate(best, back, bytes, at, plan, candidate, out);
+    }
+}

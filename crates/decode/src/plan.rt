@@ -1,0 +1,105 @@
+// What is looked up once for an accepted record, for every candidate.
+
+use closed::search::Runs;
+use phrase::costs::Costs;
+use prepare::side::Side;
+use prepare::side::side_of;
+use record::layout::Layout;
+use record::read;
+use record::read::Edges;
+use record::read::Which;
+use stages::anchors::has_nucleus;
+ghost use mathlib.Core.Path.{_≡_};
+ghost use Rattle.closed.specs.Answered.{RunsOf};
+ghost use Rattle.paths.specs.Passes.{speaks};
+ghost use Rattle.prepare.specs.Sides.{SideOf};
+ghost use Rattle.record.specs.Meaning.{phraseOf};
+ghost use Rattle.record.specs.Accepted.{Laid};
+ghost use Rattle.record.specs.Reading.{edgesOf};
+ghost use Rattle.decode.specs.Report.{lowEdge, highEdge};
+ghost use Rattle.decode.specs.Plans.{AddedSide, PlanOf};
+
+// `added` is a stage of its own only where `runs` says so.
+pub struct Plan {
+    pub costs: Costs,
+    pub runs: Runs,
+    pub nuclei: Side,
+    pub added: Side,
+    pub lo_edge: u32,
+    pub hi_edge: u32,
+}
+
+fn spoken(edges: Edges) -> bool
+    ensures { λ r. ⌜ r ≡ speaks (edgesOf edges) ⌝ }
+{
+    match edges {
+        Edges::Silent => false,
+        Edges::Spoken(_, _) => true,
+    }
+}
+
+fn lo_edge(edges: Edges) -> u32
+    ensures { λ r. ⌜ r ≡ lowEdge (edgesOf edges) ⌝ }
+{
+    match edges {
+        Edges::Silent => 0,
+        Edges::Spoken(start, _) => start,
+    }
+}
+
+fn hi_edge(edges: Edges) -> u32
+    ensures { λ r. ⌜ r ≡ highEdge (edgesOf edges) ⌝ }
+{
+    match edges {
+        Edges::Silent => 0,
+        Edges::Spoken(_, end) => end,
+    }
+}
+
+// "The added stage exists exactly when A > 0"; else the nuclei's side stands in its place.
+fn added_side(bytes: &[u8], at: Layout, nuclei: Side) -> Side
+    requires { ⌜ Laid (now bytes) at ⌝ }
+    ensures { λ r. ⌜ AddedSide (phraseOf (now (bytes .entry))) nuclei r ⌝ }
+{
+    if at.anchors.count == 0 {
+        nuclei
+    } else {
+        side_of(bytes, at, Which::Count)
+    }
+}
+
+fn runs_of(bytes: &[u8], at: Layout, edges: Edges, nuclei: Side) -> Runs
+    requires { ⌜ Laid (now bytes) at ⌝ }
+    requires { ⌜ edgesOf edges ≡ phraseOf (now bytes) .speech ⌝ }
+    requires { ⌜ SideOf (phraseOf (now bytes)) (phraseOf (now bytes) .nuclei) nuclei ⌝ }
+    ensures { λ r. ⌜ RunsOf (phraseOf (now (bytes .entry))) r ⌝ }
+{
+    let listed = nuclei.anchors;
+    let frames = listed.frames;
+    let count = listed.count;
+    let voiced = has_nucleus(read::mask(bytes, at), &frames[..count]);
+    Runs {
+        spoken: spoken(edges),
+        voiced,
+        added: at.anchors.count != 0,
+    }
+}
+
+pub fn plan_of(bytes: &[u8], at: Layout) -> Plan
+    requires { ⌜ Laid (now bytes) at ⌝ }
+    ensures { λ r. ⌜ PlanOf (phraseOf (now (bytes .entry))) r ⌝ }
+{
+    let edges = read::speech(bytes, at);
+    let costs = read::costs(bytes, at);
+    let nuclei = side_of(bytes, at, Which::Nuclei);
+    let added = added_side(bytes, at, nuclei);
+    let runs = runs_of(bytes, at, edges, nuclei);
+    Plan {
+        costs,
+        runs,
+        nuclei,
+        added,
+        lo_edge: lo_edge(edges),
+        hi_edge: hi_edge(edges),
+    }
+}

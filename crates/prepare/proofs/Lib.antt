@@ -1,0 +1,3 @@
+-- Laws of what is prepared.
+pub mod Lists
+pub mod Parts

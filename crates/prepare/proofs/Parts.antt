@@ -1,0 +1,100 @@
+-- The parts of an accepted record's phrase are fit for the tables of a stage.
+use Prim.Native.Nat.{ℕ, suc, _+_, _-_, _≤_, _<_, _^_}
+use mathlib.Core.Path.{_≡_, refl, sym, ap, subst, subst⁻¹, _∙_}
+use mathlib.Core.List.{List}
+use native.Mathlib.Omega.{arith}
+use lib.ListN.{length, getD}
+use lib.Ieee.{Float, nan}
+use Rattle.phrase.specs.declared.costs.Costs.{Costs}
+use Rattle.phrase.specs.Phrase.{Phrase, Stage}
+use Rattle.paths.specs.Units.{shortestUnit, longestUnit}
+use Rattle.stages.specs.Parts.{Fit, FitList}
+use Rattle.stages.specs.Filler.{noCost}
+use Rattle.stages.specs.Made.{tablesOf, Made}
+use Rattle.stages.specs.declared.tables.StageTables.{StageTables}
+use Rattle.stages.proofs.Listed.{table-at}
+use Rattle.record.specs.Meaning.{phraseAt, phraseOf}
+use Rattle.record.specs.Accepted.{Laid, Frames, StageFit}
+use Rattle.record.specs.Reading.{stageOf}
+use Rattle.record.specs.declared.layout.Section.{Section}
+use Rattle.record.specs.declared.layout.Layout.{Layout}
+use Rattle.record.specs.declared.read.Which.{Which}
+use Rattle.record.specs.declared.read.Which.the-variants.{Nuclei, Count}
+use Rattle.record.proofs.Accepted.{fit, meaning, counts}
+use Rattle.prepare.specs.Sides.{firstRowIn, durationsOf, TablesOf}
+
+fit-list : (frames : List ℕ) → length frames ≤ 64 → Frames frames → FitList frames
+fit-list frames few fits = record { short = few; ascending = λ i below. fits .rising i (suc i) (omega arith) below }
+
+module _ {bytes : List ℕ} {at : Layout} (h : Laid bytes at) where
+  pub few-anchors : (which : Which) → length (stageOf which (phraseOf bytes) .anchors) ≤ 64
+  few-anchors Nuclei = omega (arith, fit h .nuclei .fewAnchors)
+  few-anchors Count = fit h .added .fewAnchors
+
+  pub few-boundaries : (which : Which) → length (stageOf which (phraseOf bytes) .boundaries) ≤ 64
+  few-boundaries Nuclei = fit h .nuclei .fewBoundaries
+  few-boundaries Count = fit h .added .fewBoundaries
+
+  pub anchors-fit : (which : Which) → FitList (stageOf which (phraseOf bytes) .anchors)
+  anchors-fit Nuclei = fit-list _ (few-anchors Nuclei) (fit h .nuclei .anchors)
+  anchors-fit Count = fit-list _ (few-anchors Count) (fit h .added .anchors)
+
+  pub boundaries-fit : (which : Which) → FitList (stageOf which (phraseOf bytes) .boundaries)
+  boundaries-fit Nuclei = fit-list _ (few-boundaries Nuclei) (fit h .nuclei .boundaries)
+  boundaries-fit Count = fit-list _ (few-boundaries Count) (fit h .added .boundaries)
+
+  pub mask-fits : length (phraseOf bytes .mask) < 2 ^ 32
+  mask-fits = omega (arith, fit h .fewFrames)
+
+  pub nuclei-first : phraseOf bytes .nuclei .firstRow ≡ 0
+  unfolding phraseAt
+  nuclei-first = ap (λ (p : Phrase). p .nuclei .firstRow) (sym (meaning h))
+
+  pub first-row-is : (which : Which) → firstRowIn at which ≡ stageOf which (phraseOf bytes) .firstRow
+  unfolding phraseAt
+  first-row-is Nuclei = ap (λ (p : Phrase). p .nuclei .firstRow) (meaning h)
+  first-row-is Count = ap (λ (p : Phrase). p .added .firstRow) (meaning h)
+
+  pub rows-fit : (which : Which) → stageOf which (phraseOf bytes) .firstRow + length (stageOf which (phraseOf bytes) .anchors) < 2 ^ 32
+  rows-fit Nuclei = omega (arith, first-row-is Nuclei, few-anchors Nuclei)
+  rows-fit Count = omega (arith, first-row-is Count, few-anchors Count, counts h .nuclei)
+
+  pub few-nuclei : at .nuclei .count < 2 ^ 32
+  few-nuclei = omega (arith, counts h .nuclei)
+
+-- The tables made of these parts are those of the stage.
+module _ {bytes : List ℕ} {at : Layout} (h : Laid bytes at) (which : Which) where
+  module _ {mask nuclei anchors bounds : List ℕ} {row : ℕ}
+      (masked : mask ≡ phraseOf bytes .mask)
+      (inserted : nuclei ≡ phraseOf bytes .nuclei .anchors)
+      (anchored : anchors ≡ stageOf which (phraseOf bytes) .anchors)
+      (ranked : row ≡ stageOf which (phraseOf bytes) .firstRow)
+      (bounded : bounds ≡ stageOf which (phraseOf bytes) .boundaries) where
+    pub parts-fit : Fit mask bounds × FitList nuclei × FitList anchors × (row + length anchors < 2 ^ 32)
+    parts-fit = (
+      record { framed = subst⁻¹ (λ (l : List ℕ). length l < 2 ^ 32) masked (mask-fits h); listed = subst⁻¹ FitList bounded (boundaries-fit h which) },
+      subst⁻¹ FitList inserted (anchors-fit h Nuclei),
+      subst⁻¹ FitList anchored (anchors-fit h which),
+      subst⁻¹ (λ (n : ℕ). n + length anchors < 2 ^ 32) ranked (subst⁻¹ (λ (l : List ℕ). stageOf which (phraseOf bytes) .firstRow + length l < 2 ^ 32) anchored (rows-fit h which)),
+    )
+
+    pub parts-made : {duration : List Float} {costs : Costs} {t : StageTables} →
+        duration ≡ durationsOf (stageOf which (phraseOf bytes)) → costs ≡ phraseOf bytes .costs →
+        Made mask nuclei anchors row bounds duration costs t → TablesOf (phraseOf bytes) (stageOf which (phraseOf bytes)) t
+    parts-made timed priced made = record {
+      exact = made .exact ∙ (λ i. tablesOf (masked i) (inserted i) (anchored i) (ranked i) (bounded i) (timed i) (priced i));
+      tabled = made .tabled (phraseOf bytes) (stageOf which (phraseOf bytes)) (record {
+        masked = sym masked;
+        nucleated = sym inserted;
+        numbered = nuclei-first h;
+        priced = sym priced;
+        anchored = sym anchored;
+        ranked = sym ranked;
+        bounded = sym bounded;
+        timed = λ d least most.
+            let stage = stageOf which (phraseOf bytes) in
+            let e : d - shortestUnit + shortestUnit ≡ d = omega arith in
+            ap (λ (l : List Float). getD l (d - shortestUnit) nan) timed
+            ∙ table-at (λ i. stage .duration (i + shortestUnit)) 75 75 noCost nan (d - shortestUnit) (omega arith) ∙ ap (stage .duration) e;
+      });
+    }
