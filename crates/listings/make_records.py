@@ -30,19 +30,29 @@ def ascending(rng, count, top):
     return sorted(rng.sample(range(top), count))
 
 
+def steps(rng, top):
+    """Boundaries some frames apart, mostly as far as a unit is long."""
+    at, out = rng.randrange(8), []
+    while at < top and len(out) < 12:
+        out.append(at)
+        at += rng.choice([3, 5, 6, 7, 9, 14, 20, 81])
+    return out
+
+
 def phrase(rng):
     frames = rng.choice([12, 40, 90, 160])
-    mask = [rng.random() < 0.9 for _ in range(frames)]
-    nuclei = ascending(rng, rng.randrange(1, 5), frames + 4)
-    bounds = ascending(rng, rng.randrange(2, 7), frames + 2)
-    anchors = ascending(rng, rng.randrange(0, 5), frames)
-    added = ascending(rng, rng.randrange(2, 8), frames) if anchors else []
+    voiced = rng.choice([0.0, 0.8, 0.95, 1.0, 1.0, 1.0, 1.0, 1.0, 1.0])
+    mask = [rng.random() < voiced for _ in range(frames)]
+    nuclei = ascending(rng, rng.randrange(1, 6), frames + 4)
+    bounds = steps(rng, frames + 4)
+    anchors = ascending(rng, rng.choice([0, 0, 2, 4, 6]), frames)
+    added = steps(rng, frames) if anchors else []
     columns = rng.randrange(1, 4)
     scores = [rng.choice([-2.5, 0.0, 1.0, 3.25, 7.0]) for _ in range((len(nuclei) + len(anchors)) * columns)]
     candidates = [(10 + i, [rng.randrange(columns) for _ in range(rng.randrange(1, 5))]) for i in range(rng.randrange(1, 4))]
     costs = (rng.choice([0.0, 0.5, -0.25]), rng.choice([0.0, -2.0, 1.5]), rng.choice([-4.0, 0.0, 1000000.0]))
     start = rng.randrange(frames)
-    speech = rng.choice([(start, start + rng.randrange(20)), (0, frames), (4294967295, 4294967295)])
+    speech = rng.choice([(start, start + rng.randrange(20)), (0, frames), (0, frames), (2, frames + 9), (4294967295, 4294967295)])
     table = lambda: [-rng.choice([0.0, 0.25, 3.0]) for _ in range(75)]
     return record(mask, nuclei, bounds, anchors, added, scores, columns, candidates, costs, speech, (table(), table()))
 
@@ -59,7 +69,7 @@ def damaged(rng):
 
 
 def main():
-    rng = random.Random(1)
+    rng = random.Random(10)
     cases = [(0, phrase(rng)) for _ in range(30)] + damaged(rng)
     rng.shuffle(cases)
     with open("stdin", "wb") as f:
