@@ -1,13 +1,13 @@
 -- Arrays whose front holds a unit each, and the units that are clipped there.
 use Prim.Native.Nat.{ℕ, zero, suc, _+_, _-_, _≤_}
-use mathlib.Core.List.{List, [], _∷_, _++_, map}
-use mathlib.Core.Path.{_≡_, refl, sym, ap, subst, _∙_}
+use mathlib.Core.List.{List, _++_}
+use mathlib.Core.Path.{_≡_, refl, sym, ap, _∙_}
 use native.Mathlib.Omega.{arith}
 use lib.ListN.{length, take, drop, replicate, length-map}
 use lib.Seq.{take-append-seam, drop-append-seam, length-take-le}
 use Rattle.stages.specs.Listed.{padded, listed, tableOf}
 use Rattle.stages.proofs.Listed.{length-listed, length-table}
-use Rattle.clip.specs.Clip.{Placed, reported, startsOf, endsOf}
+use Rattle.clip.specs.Clip.{reported, startsOf, endsOf}
 use Rattle.clip.specs.Units.{unitsFrom, unitsOf, Alike, Clipped}
 use Rattle.clip.specs.declared.clip.Span.{Span}
 use Rattle.decode.proofs.Units.{length-reported}

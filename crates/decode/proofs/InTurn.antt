@@ -1,12 +1,12 @@
 -- The candidates in their order: after each, the output holds the entries so far, ranked.
-use Prim.Native.Nat.{ℕ, zero, suc, _+_, _*_, _≤_, _<_}
+use Prim.Native.Nat.{ℕ, zero, suc, _+_, _*_, _<_}
 use mathlib.Core.Bool.{Bool, true, false, cond}
 use mathlib.Core.List.{List, [], _∷_, _++_, map}
 use mathlib.Core.Option.{none}
-use mathlib.Core.Path.{_≡_, refl, sym, ap, ap₂, subst, _∙_}
+use mathlib.Core.Path.{_≡_, refl, sym, ap, ap₂, _∙_}
 use native.Mathlib.Omega.{arith}
 use native.Mathlib.Numerals.{add-one}
-use lib.ListN.{length, getD, take, drop, length-map}
+use lib.ListN.{length, take, drop, length-map}
 use lib.Seq.{take-suc, drop-drop, length-take-le}
 use Rattle.ieee.specs.TotalOrder.{totalBefore}
 use Rattle.phrase.specs.Phrase.{Phrase, Candidate}
@@ -15,7 +15,7 @@ use Rattle.record.specs.Meaning.{phraseOf}
 use Rattle.record.specs.Refusals.{refusalOf}
 use Rattle.record.specs.Reading.{candidateOf}
 use Rattle.entries.specs.Entry.{Entry}
-use Rattle.entries.specs.Words.{entryWords, allWords}
+use Rattle.entries.specs.Words.{allWords}
 use Rattle.entries.specs.Ranking.{insert, rankOnto, ranked}
 use Rattle.entries.specs.Placing.{Fit, All, Inserted}
 use Rattle.entries.proofs.Ranks.{all-ranked, ranked-more}

@@ -1,17 +1,17 @@
 -- The units that the look-ahead tables place are the ones to report.
-use Prim.Native.Nat.{ℕ, zero, suc, _+_, _-_, _≤_, _<_}
+use Prim.Native.Nat.{ℕ, _-_, _≤_, _<_}
 use mathlib.Core.Bool.{Bool, true, false, not, cond, _&&_}
-use mathlib.Core.List.{List, [], _∷_, _++_, map}
-use mathlib.Core.Path.{_≡_, refl, sym, ap, ap₂, subst, _∙_}
+use mathlib.Core.List.{List, [], _∷_}
+use mathlib.Core.Path.{_≡_, refl, sym, ap, subst, _∙_}
 use native.Mathlib.Omega.{arith}
 use borrow.Author.Tests.{lt-ltb, le-ltb, ne-eqb}
 use lib.Dec.{T, ltb, leb, eqb, ltb→lt, nltb→le, leb→le, eqb→eq}
-use lib.ListN.{length, getD}
+use lib.ListN.{length}
 use Rattle.phrase.specs.Phrase.{Phrase, Stage}
 use Rattle.paths.specs.declared.passes.Strictness.{Strictness}
 use Rattle.paths.specs.declared.passes.Strictness.the-variants.{Strict, Relaxed}
 use Rattle.paths.specs.Frames.{Increasing}
-use Rattle.paths.specs.Anchors.{Anchor, kept, heldIn}
+use Rattle.paths.specs.Anchors.{Anchor, kept}
 use Rattle.paths.specs.Units.{fitsUnit, mayHold, admitsUnit}
 use Rattle.paths.specs.LookAhead.{firstAhead, secondAhead, rowAhead, rowOr}
 use Rattle.paths.specs.StageProblem.{boundary}
@@ -20,7 +20,7 @@ use Rattle.paths.proofs.LookAhead.{Rising, kept-rising, holds-none, holds-one, 
 use Rattle.stages.specs.Tables.{beyond}
 use Rattle.evidence.specs.Spans.{spanOf}
 use Rattle.evidence.specs.declared.evidence.Span as Evidence
-use Rattle.clip.specs.Clip.{Placed, anchored, unanchored, given}
+use Rattle.clip.specs.Clip.{anchored, unanchored, given}
 use Rattle.clip.specs.declared.clip.Span.{Span}
 use Rattle.entries.specs.Entry.{noRow}
 use Rattle.decode.specs.declared.report.PlacedUnit.{PlacedUnit}

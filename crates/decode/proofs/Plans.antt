@@ -1,20 +1,20 @@
 -- Whether there is an added stage, and whether a nucleus is in the mask.
-use Prim.Native.Nat.{ℕ, suc, _≤_, _<_}
+use Prim.Native.Nat.{ℕ, suc, _<_}
 use mathlib.Core.Bool.{Bool, true, false, not}
 use mathlib.Core.List.{List, [], _∷_}
-use mathlib.Core.Path.{_≡_, refl, sym, ap, subst, _∙_}
+use mathlib.Core.Path.{_≡_, refl, sym, ap, _∙_}
 use native.Mathlib.Omega.{arith}
 use borrow.Author.Tests.{eq-eqb, ne-eqb}
 use lib.Dec.{eqb}
 use lib.ListN.{length}
-use Rattle.phrase.specs.Phrase.{Phrase, Stage}
-use Rattle.paths.specs.Anchors.{Anchor, keptIn}
+use Rattle.phrase.specs.Phrase.{Phrase}
+use Rattle.paths.specs.Anchors.{keptIn}
 use Rattle.paths.specs.Passes.{nonEmpty, hasNucleus}
-use Rattle.record.specs.Meaning.{framesAt, phraseOf}
+use Rattle.record.specs.Meaning.{phraseOf}
 use Rattle.record.specs.Accepted.{Laid}
 use Rattle.record.specs.declared.layout.Section.{Section}
 use Rattle.record.specs.declared.layout.Layout.{Layout}
-use Rattle.record.specs.declared.read.Which.the-variants.{Nuclei, Count}
+use Rattle.record.specs.declared.read.Which.the-variants.{Count}
 use Rattle.record.proofs.Below.{length-listed}
 use Rattle.record.proofs.Reading.{anchors-are}
 use Rattle.prepare.proofs.Parts.{nuclei-first}

@@ -4,22 +4,20 @@ use mathlib.Core.Bool.{Bool, true, false, not, cond}
 use mathlib.Core.List.{List, [], _∷_, _++_, map, zipWith}
 use mathlib.Core.Path.{_≡_, refl, sym, ap, ap₂, subst, _∙_}
 use native.Mathlib.Omega.{arith}
-use borrow.Author.Tests.{ne-eqb}
 use lib.Dec.{T, eqb, ltb, ltb→lt, nltb→le}
 use lib.ListN.{length, getD, take, replicate, length-map, length-replicate, getD-replicate, List·getD-append, length-append}
 use lib.Seq.{ext-getD, getD-append-seam, getD-take, length-take-le}
 use Rattle.phrase.specs.Phrase.{Phrase, Stage}
 use Rattle.paths.specs.declared.passes.Strictness.{Strictness}
 use Rattle.paths.specs.Frames.{Increasing}
-use Rattle.paths.specs.Anchors.{Anchor, kept, heldIn}
-use Rattle.paths.specs.LookAhead.{firstAhead, rowAhead, rowOr}
-use Rattle.paths.specs.Problem.{Problem}
+use Rattle.paths.specs.Anchors.{Anchor, kept}
+use Rattle.paths.specs.LookAhead.{rowAhead, rowOr}
 use Rattle.paths.specs.StageProblem.{boundary, problemOf}
 use Rattle.paths.specs.Marks.{Bounds}
 use Rattle.paths.proofs.PathUnits.{InOrder, no-units, later-end, one-more}
 use Rattle.stages.specs.declared.tables.StageTables.{StageTables}
 use Rattle.stages.specs.Tables.{Tabled, beyond}
-use Rattle.stages.specs.Listed.{padded, listed, tableOf}
+use Rattle.stages.specs.Listed.{padded, listed}
 use Rattle.stages.specs.Made.{tablesOf}
 use Rattle.stages.proofs.Listed.{length-listed, listed-at, padded-in, length-padded, table-at, length-table}
 use Rattle.rows.specs.declared.trace.Units.{Units}
@@ -28,14 +26,14 @@ use Rattle.prepare.specs.declared.side.Side.{Side}
 use Rattle.prepare.specs.declared.side.Listed.{Listed}
 use Rattle.prepare.specs.Sides.{SideOf}
 use Rattle.prepare.proofs.Lists.{its-length, its-front}
-use Rattle.clip.specs.Clip.{Placed, anchored, unanchored, given, reported, startsOf, endsOf}
+use Rattle.clip.specs.Clip.{Placed, anchored, unanchored, reported, startsOf, endsOf}
 use Rattle.clip.specs.Units.{unitAt, unitsFrom, unitsOf}
 use Rattle.clip.specs.declared.clip.Span.{Span}
 use Rattle.entries.specs.Entry.{ReportedUnit, noRow}
 use Rattle.entries.specs.EntryFrom as Entries
 use Rattle.decode.specs.declared.report.PlacedUnit.{PlacedUnit}
 use Rattle.decode.specs.declared.report.Reported.{Reported}
-use Rattle.decode.specs.Report.{lowEdge, highEdge, heldBy, placedBy, placed, reportedUnit, reportedIn}
+use Rattle.decode.specs.Report.{lowEdge, highEdge, heldBy, placed, reportedUnit, reportedIn}
 use Rattle.decode.specs.Places.{placeOf, placeAt, Placeable, placedList, ReportedAll, missedAt, unitless, Holds}
 use Rattle.decode.proofs.Units.{length-reported, length-reportedIn}
 use Rattle.decode.proofs.Placing.{placeIn, UnitOk, placed-by-tables, told-by-row}

@@ -1,26 +1,25 @@
 -- From what the search says of a candidate to its entry.
-use Prim.Native.Nat.{ℕ, suc, _+_, _≤_, _<_, _^_}
-use mathlib.Core.Bool.{Bool, true, false, not, cond, _||_}
+use Prim.Native.Nat.{ℕ, _+_, _≤_, _<_}
+use mathlib.Core.Bool.{Bool, true, false, cond, _||_}
 use mathlib.Core.List.{List, [], _∷_}
 use mathlib.Core.Path.{_≡_, refl, sym, ap, subst, subst⁻¹, _∙_}
 use native.Mathlib.Omega.{arith}
 use borrow.Author.Tests.{eq-eqb}
 use lib.Dec.{T, eqb}
 use lib.ListN.{length, getD, length-replicate}
-use lib.Ieee.{Float, isNan}
+use lib.Ieee.{Float}
 use Rattle.ieee.specs.Convert.{ClampedLog, clampedLog}
 use Rattle.phrase.specs.Phrase.{Phrase, Stage, Candidate}
 use Rattle.paths.specs.declared.passes.Strictness.{Strictness}
 use Rattle.paths.specs.declared.passes.Pass.{Pass}
 use Rattle.paths.specs.declared.passes.Pass.the-variants.{NucleiStrict, CountStrict, CountRelaxed, NucleiRelaxed}
-use Rattle.paths.specs.Problem.{Problem}
 use Rattle.paths.specs.Path.{Path, count, Admitted}
 use Rattle.paths.specs.Passes.{passNumber, passProblem, nonEmpty, inOrder}
 use Rattle.paths.specs.Demand as D
 use Rattle.paths.specs.Demand.{Answer, answerNumber}
 use Rattle.paths.specs.Search.{chosen}
 use Rattle.paths.specs.StageProblem.{problemOf}
-use Rattle.paths.specs.Marks.{Bounds, unitsOf}
+use Rattle.paths.specs.Marks.{unitsOf}
 use Rattle.paths.proofs.PathUnits.{units-count, units-in-order}
 use Rattle.stages.specs.Tables.{beyond}
 use Rattle.rows.specs.declared.trace.Units.{Units}
@@ -43,8 +42,8 @@ use Rattle.record.proofs.Accepted.{fit}
 use Rattle.prepare.specs.declared.side.Side.{Side}
 use Rattle.prepare.specs.Sides.{SideOf}
 use Rattle.prepare.proofs.Parts.{few-anchors, few-boundaries, anchors-fit, boundaries-fit, mask-fits, rows-fit}
-use Rattle.entries.specs.Entry.{ReportedUnit, Entry, noRow}
-use Rattle.entries.specs.EntryFrom.{unitsFrom, entryFrom}
+use Rattle.entries.specs.Entry.{noRow}
+use Rattle.entries.specs.EntryFrom.{unitsFrom}
 use Rattle.entries.specs.declared.words.EntryHead.{EntryHead}
 use Rattle.decode.specs.declared.plan.Plan.{Plan}
 use Rattle.decode.specs.declared.report.Reported.{Reported}

@@ -1,7 +1,7 @@
 -- What is looked up once for a phrase.
 use mathlib.Core.Bool.{true, false}
 use mathlib.Core.Path.{_≡_}
-use Rattle.phrase.specs.Phrase.{Phrase, Stage}
+use Rattle.phrase.specs.Phrase.{Phrase}
 use Rattle.paths.specs.Passes.{nonEmpty}
 use Rattle.closed.specs.Answered.{RunsOf}
 use Rattle.prepare.specs.declared.side.Side.{Side}

@@ -1,20 +1,20 @@
 -- The parts of an accepted record's phrase are fit for the tables of a stage.
 use Prim.Native.Nat.{ℕ, suc, _+_, _-_, _≤_, _<_, _^_}
-use mathlib.Core.Path.{_≡_, refl, sym, ap, subst, subst⁻¹, _∙_}
+use mathlib.Core.Path.{_≡_, sym, ap, subst, subst⁻¹, _∙_}
 use mathlib.Core.List.{List}
 use native.Mathlib.Omega.{arith}
 use lib.ListN.{length, getD}
 use lib.Ieee.{Float, nan}
 use Rattle.phrase.specs.declared.costs.Costs.{Costs}
-use Rattle.phrase.specs.Phrase.{Phrase, Stage}
-use Rattle.paths.specs.Units.{shortestUnit, longestUnit}
+use Rattle.phrase.specs.Phrase.{Phrase}
+use Rattle.paths.specs.Units.{shortestUnit}
 use Rattle.stages.specs.Parts.{Fit, FitList}
 use Rattle.stages.specs.Filler.{noCost}
 use Rattle.stages.specs.Made.{tablesOf, Made}
 use Rattle.stages.specs.declared.tables.StageTables.{StageTables}
 use Rattle.stages.proofs.Listed.{table-at}
 use Rattle.record.specs.Meaning.{phraseAt, phraseOf}
-use Rattle.record.specs.Accepted.{Laid, Frames, StageFit}
+use Rattle.record.specs.Accepted.{Laid, Frames}
 use Rattle.record.specs.Reading.{stageOf}
 use Rattle.record.specs.declared.layout.Section.{Section}
 use Rattle.record.specs.declared.layout.Layout.{Layout}

@@ -1,5 +1,5 @@
 -- The score and the spans are those of no path.
-use mathlib.Core.Path.{_≡_, ap, _∙_}
+use mathlib.Core.Path.{ap, _∙_}
 use Rattle.ieee.specs.Convert.{clampedLog}
 use borrow.Author.Needs.{needs}
 use Rattle.decode.proofs.entry.missed_entry.Statement.{statement}

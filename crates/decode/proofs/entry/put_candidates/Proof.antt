@@ -1,9 +1,8 @@
 -- After each candidate the output holds the entries so far, ranked, and the work areas are as they were.
 use Prim.Native.Nat.{ℕ, _+_, _-_, _*_, _≤_, _<_}
 use mathlib.Core.List.{List, _++_}
-use mathlib.Core.Path.{_≡_, refl, sym, ap, subst⁻¹, _∙_}
+use mathlib.Core.Path.{_≡_, refl, ap, subst⁻¹, _∙_}
 use native.Mathlib.Omega.{arith}
-use borrow.Author.Needs.{needs}
 use lib.Ieee.{Float}
 use lib.ListN.{length, drop}
 use Rattle.phrase.specs.Phrase.{Phrase}

@@ -1,5 +1,5 @@
 -- Which passes there are.
-use mathlib.Core.Path.{_≡_, ap, subst⁻¹, _∙_}
+use mathlib.Core.Path.{ap, subst⁻¹, _∙_}
 use mathlib.Core.List.{List}
 use Prim.Native.Nat.{ℕ, _≤_}
 use lib.ListN.{length}

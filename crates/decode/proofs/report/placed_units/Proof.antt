@@ -1,5 +1,5 @@
 -- The first units are placed already.
-use Prim.Native.Nat.{ℕ, _+_, _-_, _≤_, _<_}
+use Prim.Native.Nat.{ℕ, _-_, _≤_, _<_}
 use mathlib.Core.List.{List}
 use mathlib.Core.Path.{_≡_, sym, ap, _∙_}
 use native.Mathlib.Omega.{arith}
@@ -9,7 +9,7 @@ use lib.Seq.{length-take-le}
 use Rattle.stages.specs.Listed.{tableOf}
 use Rattle.stages.proofs.Listed.{table-none, table-more, length-table}
 use Rattle.decode.specs.declared.report.PlacedUnit.{PlacedUnit}
-use Rattle.decode.specs.Places.{placeOf, placeAt, Placeable, PlacedAll}
+use Rattle.decode.specs.Places.{placeOf, placeAt}
 use Rattle.decode.proofs.report.placed_units.Statement.{statement}
 use Rattle.decode.proofs.report.placed_units.Tie as tie
 
