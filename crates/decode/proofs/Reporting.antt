@@ -1,20 +1,19 @@
 -- From the arrays that the code fills to the units that are to be reported.
 use Prim.Native.Nat.{ℕ, zero, suc, _+_, _-_, _≤_, _<_}
-use mathlib.Core.Bool.{Bool, true, false, not, cond}
+use mathlib.Core.Bool.{cond}
 use mathlib.Core.List.{List, [], _∷_, _++_, map, zipWith}
-use mathlib.Core.Path.{_≡_, refl, sym, ap, ap₂, subst, _∙_}
+use mathlib.Core.Path.{_≡_, refl, sym, ap, ap₂, _∙_}
 use native.Mathlib.Omega.{arith}
-use lib.Dec.{T, eqb, ltb, ltb→lt, nltb→le}
-use lib.ListN.{length, getD, take, replicate, length-map, length-replicate, getD-replicate, List·getD-append, length-append}
-use lib.Seq.{ext-getD, getD-append-seam, getD-take, length-take-le}
+use lib.Dec.{eqb}
+use lib.ListN.{length, getD, take, replicate, length-map, length-replicate, List·getD-append, length-append}
+use lib.Seq.{ext-getD, getD-take, length-take-le}
 use Rattle.phrase.specs.Phrase.{Phrase, Stage}
 use Rattle.paths.specs.declared.passes.Strictness.{Strictness}
 use Rattle.paths.specs.Frames.{Increasing}
 use Rattle.paths.specs.Anchors.{Anchor, kept}
-use Rattle.paths.specs.LookAhead.{rowAhead, rowOr}
-use Rattle.paths.specs.StageProblem.{boundary, problemOf}
+use Rattle.paths.specs.LookAhead.{rowAhead}
+use Rattle.paths.specs.StageProblem.{boundary}
 use Rattle.paths.specs.Marks.{Bounds}
-use Rattle.paths.proofs.PathUnits.{InOrder, no-units, later-end, one-more}
 use Rattle.stages.specs.declared.tables.StageTables.{StageTables}
 use Rattle.stages.specs.Tables.{Tabled, beyond}
 use Rattle.stages.specs.Listed.{padded, listed, tableOf}
@@ -27,50 +26,18 @@ use Rattle.prepare.specs.declared.side.Side.{Side}
 use Rattle.prepare.specs.declared.side.Listed.{Listed}
 use Rattle.prepare.specs.Sides.{durationsOf, SideOf}
 use Rattle.prepare.proofs.Lists.{its-length, its-front}
-use Rattle.clip.specs.Clip.{Placed, anchored, unanchored, reported, startsOf, endsOf}
+use Rattle.clip.specs.Clip.{Placed, anchored, unanchored, reported}
 use Rattle.clip.specs.Units.{unitAt, unitsFrom, unitsOf}
 use Rattle.clip.specs.declared.clip.Span.{Span}
-use Rattle.entries.specs.Entry.{ReportedUnit, noRow}
+use Rattle.entries.specs.Entry.{noRow}
 use Rattle.entries.specs.EntryFrom as Entries
 use Rattle.decode.specs.declared.report.PlacedUnit.{PlacedUnit}
 use Rattle.decode.specs.declared.report.Reported.{Reported}
 use Rattle.decode.specs.Report.{lowEdge, highEdge, heldBy, placed, reportedUnit, reportedIn}
-use Rattle.decode.specs.Places.{placeOf, placeAt, Placeable, placedList, ReportedAll, missedAt, unitless, Holds}
+use Rattle.decode.specs.Places.{placeOf, placeAt, Placeable, placedList, ReportedAll, unitless, Holds}
 use Rattle.decode.proofs.Units.{length-reported, length-reportedIn}
 use Rattle.decode.proofs.Placing.{placeIn, UnitOk, placed-by-tables, told-by-row}
-
--- ---- the units of an entry are those that the arrays hold
-
-from-arrays : (starts ends rows : List ℕ) (us : List ReportedUnit) (i : ℕ)
-    → ((j : ℕ) → j < length us → Entries.unitAt starts ends rows (i + j) ≡ getD us j unitless) → Entries.unitsFrom starts ends rows (length us) i ≡ us
-unfolding Entries.unitsFrom
-from-arrays starts ends rows [] i given = refl
-from-arrays starts ends rows (u ∷ us) i given =
-    let here : i ≡ i + 0 = omega arith in
-    ap₂ (λ (x : ReportedUnit) (xs : List ReportedUnit). x ∷ xs)
-    (ap (Entries.unitAt starts ends rows) here ∙ given 0 (omega arith))
-    (from-arrays starts ends rows us (suc i)
-    (λ j h. let e : suc i + j ≡ i + suc j = omega arith in ap (Entries.unitAt starts ends rows) e ∙ given (suc j) (omega arith)))
-
-pub held-units : {units : List ReportedUnit} {r : Reported} → Holds units r → Entries.unitsFrom (r .starts) (r .ends) (r .rows) (length units) 0 ≡ units
-held-units {units} {r} h =
-    from-arrays (r .starts) (r .ends) (r .rows) units 0
-    (λ j below. let e : 0 + j ≡ j = omega arith in ap (Entries.unitAt (r .starts) (r .ends) (r .rows)) e ∙ h .each j below)
-
-pub missed-hold : (k at : ℕ) → k ≤ 16 → Holds (replicate k (record { start = at; end = at; row = noRow })) (missedAt at)
-missed-hold k at few =
-    let unit : ReportedUnit = record { start = at; end = at; row = noRow } in
-    let long = length-replicate k unit in
-    record {
-      few = omega (arith, long);
-      each = λ i h.
-          let below : i < 16 = omega (arith, long) in
-          (λ t. record { start = getD-replicate 16 i at 0 below t; end = getD-replicate 16 i at 0 below t; row = getD-replicate 16 i noRow 0 below t })
-          ∙ sym (getD-replicate k i unit unitless (omega (arith, long)));
-      startsLong = length-replicate 16 at;
-      endsLong = length-replicate 16 at;
-      rowsLong = length-replicate 16 noRow;
-    }
+use Rattle.decode.proofs.Admitted.{noBounds}
 
 -- ---- lists by index
 
@@ -83,29 +50,6 @@ listed-map : {A : Type 0} (f : ℕ → ℕ) (g : A → ℕ) (xs : List A) (d : A
 listed-map f g xs d same =
     ext-getD (g d) _ _ (length-listed f (length xs) ∙ sym (length-map xs g))
     (λ i h. let below : i < length xs = omega (arith, length-listed f (length xs)) in listed-at f (length xs) (g d) i below ∙ same i below ∙ sym (getD-map g xs i d))
-
--- ---- each unit of a path is admitted
-
-abbrev pub noBounds : Bounds
-noBounds = record { first = 0; last = 0 }
-
-module _ (phrase : Phrase) (stage : Stage) (strictness : Strictness) (columns : List ℕ) where
-  pub each-ok : {us : List Bounds} {j : ℕ} → InOrder (problemOf phrase stage strictness columns) us j
-      → (i : ℕ) → i < length us → UnitOk phrase stage strictness (getD us i noBounds)
-  each-ok no-units i h = absurd (omega arith)
-  each-ok (later-end o l) i h = each-ok o i h
-  each-ok (one-more {us = us} {i = a} {j = b} o less below ok) i h = go (ltb i (length us)) (ltb→lt i (length us)) (nltb→le i (length us)) (λ before. each-ok o i before)
-    where
-      unit : Bounds
-      unit = record { first = a; last = b }
-
-      go : (earlier : Bool) → (T earlier → i < length us) → (T (not earlier) → length us ≤ i)
-          → (i < length us → UnitOk phrase stage strictness (getD us i noBounds)) → UnitOk phrase stage strictness (getD (us ++ (unit ∷ [])) i noBounds)
-      go true inside outside known = subst (UnitOk phrase stage strictness) (sym (List·getD-append us (unit ∷ []) noBounds i (inside tt))) (known (inside tt))
-      go false inside outside known =
-          let e : i ≡ length us = omega (arith, outside tt, length-append us (unit ∷ [])) in
-          subst (UnitOk phrase stage strictness) (sym (ap (λ (n : ℕ). getD (us ++ (unit ∷ [])) n noBounds) e ∙ getD-append-seam us unit [] noBounds))
-          (record { forward = less; inside = below; admitted = ok })
 
 -- ---- units in arrays, one by one
 
