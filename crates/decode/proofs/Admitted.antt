@@ -12,15 +12,6 @@ use Rattle.paths.specs.declared.passes.Strictness.{Strictness}
 use Rattle.paths.specs.StageProblem.{problemOf}
 use Rattle.paths.specs.Marks.{Bounds}
 use Rattle.paths.proofs.PathUnits.{InOrder, no-units, later-end, one-more}
-use Rattle.stages.specs.declared.tables.StageTables.{StageTables}
-use Rattle.rows.specs.declared.trace.Units.{Units}
-use Rattle.rows.specs.Traced as Traced
-use Rattle.prepare.specs.declared.side.Side.{Side}
-use Rattle.prepare.specs.declared.side.Listed.{Listed}
-use Rattle.clip.specs.declared.clip.Span.{Span}
-use Rattle.entries.specs.EntryFrom as Entries
-use Rattle.decode.specs.declared.report.PlacedUnit.{PlacedUnit}
-use Rattle.decode.specs.declared.report.Reported.{Reported}
 use Rattle.decode.proofs.Placing.{UnitOk}
 
 abbrev pub noBounds : Bounds

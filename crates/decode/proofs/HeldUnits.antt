@@ -4,17 +4,9 @@ use mathlib.Core.List.{List, [], _∷_}
 use mathlib.Core.Path.{_≡_, refl, sym, ap, ap₂, _∙_}
 use native.Mathlib.Omega.{arith}
 use lib.ListN.{length, getD, replicate, length-replicate, getD-replicate}
-use Rattle.paths.specs.declared.passes.Strictness.{Strictness}
-use Rattle.stages.specs.declared.tables.StageTables.{StageTables}
-use Rattle.rows.specs.declared.trace.Units.{Units}
-use Rattle.rows.specs.Traced as Traced
-use Rattle.prepare.specs.declared.side.Side.{Side}
-use Rattle.prepare.specs.declared.side.Listed.{Listed}
 use Rattle.clip.specs.Units.{unitAt, unitsFrom}
-use Rattle.clip.specs.declared.clip.Span.{Span}
 use Rattle.entries.specs.Entry.{ReportedUnit, noRow}
 use Rattle.entries.specs.EntryFrom as Entries
-use Rattle.decode.specs.declared.report.PlacedUnit.{PlacedUnit}
 use Rattle.decode.specs.declared.report.Reported.{Reported}
 use Rattle.decode.specs.Places.{missedAt, unitless, Holds}
 

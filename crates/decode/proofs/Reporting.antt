@@ -23,14 +23,12 @@ use Rattle.rows.specs.declared.trace.Units.{Units}
 use Rattle.rows.specs.Traced.{firstsOf, lastsOf, UnitsAre}
 use Rattle.rows.specs.Traced as Traced
 use Rattle.prepare.specs.declared.side.Side.{Side}
-use Rattle.prepare.specs.declared.side.Listed.{Listed}
 use Rattle.prepare.specs.Sides.{durationsOf, SideOf}
 use Rattle.prepare.proofs.Lists.{its-length, its-front}
 use Rattle.clip.specs.Clip.{Placed, anchored, unanchored, reported}
 use Rattle.clip.specs.Units.{unitAt, unitsFrom, unitsOf}
 use Rattle.clip.specs.declared.clip.Span.{Span}
 use Rattle.entries.specs.Entry.{noRow}
-use Rattle.entries.specs.EntryFrom as Entries
 use Rattle.decode.specs.declared.report.PlacedUnit.{PlacedUnit}
 use Rattle.decode.specs.declared.report.Reported.{Reported}
 use Rattle.decode.specs.Report.{lowEdge, highEdge, heldBy, placed, reportedUnit, reportedIn}

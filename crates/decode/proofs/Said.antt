@@ -3,28 +3,15 @@ use Prim.Native.Nat.{ℕ}
 use mathlib.Core.Path.{_≡_, refl}
 use native.Mathlib.Omega.{arith}
 use lib.Ieee.{Float}
-use Rattle.paths.specs.declared.passes.Strictness.{Strictness}
 use Rattle.paths.specs.declared.passes.Pass.{Pass}
 use Rattle.paths.specs.Path.{Path}
 use Rattle.paths.specs.Demand as D
 use Rattle.paths.specs.Demand.{Answer}
 use Rattle.paths.specs.Marks.{unitsOf}
-use Rattle.rows.specs.declared.trace.Units.{Units}
 use Rattle.rows.specs.Traced.{UnitsAre}
-use Rattle.closed.specs.declared.search.Answer as Code
 use Rattle.closed.specs.declared.search.Answer.the-variants.{Found, None, Unvoiced}
 use Rattle.closed.specs.declared.search.Searched.{Searched}
 use Rattle.closed.specs.Answered.{Says}
-use Rattle.record.specs.declared.layout.Section.{Section}
-use Rattle.record.specs.declared.layout.Layout.{Layout}
-use Rattle.record.specs.declared.read.Which.{Which}
-use Rattle.prepare.specs.declared.side.Side.{Side}
-use Rattle.entries.specs.declared.words.EntryHead.{EntryHead}
-use Rattle.decode.specs.declared.plan.Plan.{Plan}
-use Rattle.decode.specs.declared.report.Reported.{Reported}
-use Rattle.decode.specs.declared.entry.Scored.{Scored}
-use Rattle.decode.specs.Report as Report
-use Rattle.decode.proofs.Reporting as Reporting
 
 pub record FoundPath (a : Answer) (r : Searched) (pass : Pass) (total : Float) : Type 0 where
   pub path : Path

@@ -21,7 +21,6 @@ use Rattle.paths.proofs.PathUnits.{units-count, units-in-order}
 use Rattle.stages.specs.Tables.{beyond}
 use Rattle.rows.specs.declared.trace.Units.{Units}
 use Rattle.rows.specs.Traced.{UnitsAre}
-use Rattle.closed.specs.declared.search.Answer as Code
 use Rattle.closed.specs.declared.search.Answer.the-variants.{Found, None, Unvoiced}
 use Rattle.closed.specs.declared.search.Searched.{Searched}
 use Rattle.closed.specs.Answered.{Says, numberOf, passStage, passStrictness}
@@ -31,7 +30,6 @@ use Rattle.record.specs.Edition.{edition1}
 use Rattle.record.specs.Meaning.{phraseOf}
 use Rattle.record.specs.Accepted.{Laid, CandidateFit}
 use Rattle.record.specs.Reading.{stageOf, candidateOf}
-use Rattle.record.specs.declared.layout.Section.{Section}
 use Rattle.record.specs.declared.layout.Layout.{Layout}
 use Rattle.record.specs.declared.read.Which.{Which}
 use Rattle.record.specs.declared.read.Which.the-variants.{Nuclei, Count}

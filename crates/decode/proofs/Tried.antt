@@ -6,24 +6,10 @@ use mathlib.Core.Path.{_≡_, refl, sym, subst}
 use borrow.Author.Tests.{eq-eqb}
 use lib.Dec.{T, eqb}
 use Rattle.phrase.specs.Phrase.{Phrase}
-use Rattle.paths.specs.declared.passes.Strictness.{Strictness}
 use Rattle.paths.specs.declared.passes.Pass.{Pass}
 use Rattle.paths.specs.declared.passes.Pass.the-variants.{NucleiStrict, CountStrict, CountRelaxed, NucleiRelaxed}
 use Rattle.paths.specs.Passes.{passNumber}
 use Rattle.paths.specs.Demand as D
-use Rattle.rows.specs.declared.trace.Units.{Units}
-use Rattle.closed.specs.declared.search.Answer as Code
-use Rattle.closed.specs.declared.search.Searched.{Searched}
-use Rattle.record.specs.declared.layout.Section.{Section}
-use Rattle.record.specs.declared.layout.Layout.{Layout}
-use Rattle.record.specs.declared.read.Which.{Which}
-use Rattle.prepare.specs.declared.side.Side.{Side}
-use Rattle.entries.specs.declared.words.EntryHead.{EntryHead}
-use Rattle.decode.specs.declared.plan.Plan.{Plan}
-use Rattle.decode.specs.declared.report.Reported.{Reported}
-use Rattle.decode.specs.declared.entry.Scored.{Scored}
-use Rattle.decode.specs.Report as Report
-use Rattle.decode.proofs.Reporting as Reporting
 
 pub has : Pass → List Pass → Bool
 has pass [] = false

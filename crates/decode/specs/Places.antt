@@ -8,14 +8,11 @@ use lib.IntN.{pos}
 use lib.ListN.{length, getD, take, replicate}
 use lib.Ieee.{Float, binary32, mul, ofInt}
 use Rattle.evidence.specs.Spans.{spanOf}
-use Rattle.evidence.specs.declared.evidence.Span.{Span}
 use Rattle.entries.specs.Entry.{ReportedUnit, noRow}
 use Rattle.entries.specs.EntryFrom.{unitAt}
-use Rattle.stages.specs.declared.tables.StageTables.{StageTables}
 use Rattle.stages.specs.Listed.{padded, listed, tableOf}
 use Rattle.clip.specs.Clip.{Placed, reported, startsOf, endsOf}
 use Rattle.clip.specs.Units.{unitsOf}
-use Rattle.prepare.specs.declared.side.Listed.{Listed}
 use Rattle.prepare.specs.declared.side.Side.{Side}
 use Rattle.rows.specs.declared.trace.Units.{Units}
 use Rattle.decode.specs.declared.report.PlacedUnit.{PlacedUnit}
