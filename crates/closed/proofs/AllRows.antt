@@ -1,6 +1,6 @@
 -- The rows up to each count, filled one after the other. Assumes nothing.
 use mathlib.Core.List.{List}
-use mathlib.Core.Path.{_≡_, refl, sym, ap, subst, _∙_}
+use mathlib.Core.Path.{_≡_, refl, subst, _∙_}
 use Prim.Native.Nat.{ℕ, zero, suc, _+_, _*_, _≤_, _<_}
 use native.Mathlib.Nat.{mul-le-mul-right}
 use native.Mathlib.Omega.{arith}
@@ -9,12 +9,11 @@ use lib.ListN.{length, getD}
 use Rattle.phrase.specs.Phrase.{Phrase}
 use Rattle.paths.specs.declared.passes.Strictness.{Strictness}
 use Rattle.paths.specs.Problem.{Problem}
-use Rattle.paths.specs.Cell.{Cell, empty}
-use Rattle.paths.specs.CellRule.{rows, sweep}
-use Rattle.paths.specs.Marks.{Marked, marks}
+use Rattle.paths.specs.Cell.{empty}
+use Rattle.paths.specs.CellRule.{rows}
+use Rattle.paths.specs.Marks.{marks}
 use Rattle.stages.specs.declared.tables.StageTables.{StageTables}
-use Rattle.rows.specs.Rows.{Row, HoldsAt, Same}
-use Rattle.rows.specs.Units.{arrivals}
+use Rattle.rows.specs.Rows.{HoldsAt, Same}
 use Rattle.rows.proofs.Cells.{by-order, same-refl, same-trans, same-holds}
 use Rattle.closed.specs.Filled.{rowAt, FilledFirst, FilledNext, NextRow}
 use Rattle.closed.specs.Searched.{ScoresOf, unitsWith, Agrees}

@@ -1,29 +1,27 @@
 -- The tables of a stage are those of its problems. Assumes nothing.
 use mathlib.Core.Bool.{Bool, true, false, cond, not, _&&_}
-use mathlib.Core.List.{List, [], _∷_, tail}
-use mathlib.Core.Path.{_≡_, refl, sym, ap, ap₂, subst, _∙_}
+use mathlib.Core.List.{List, [], _∷_}
+use mathlib.Core.Path.{_≡_, refl, sym, ap, subst}
 use Prim.Native.Nat.{ℕ, suc, _+_, _-_, _≤_, _<_}
-use native.Mathlib.Nat.{le-refl, le-trans}
+use native.Mathlib.Nat.{le-refl}
 use native.Mathlib.Omega.{arith}
 use lib.Dec.{T, leb, ltb, eqb, leb→le, ltb→lt}
-use lib.Ieee.{Float, binary64, add, nan}
+use lib.Ieee.{Float, binary64, add}
 use lib.ListN.{length, getD}
-use borrow.Author.Tests.{leb-true}
 use Rattle.phrase.specs.Phrase.{Phrase, Stage}
 use Rattle.paths.specs.declared.passes.Strictness.{Strictness}
-use Rattle.paths.specs.Problem.{Problem}
 use Rattle.paths.specs.Frames.{Increasing, within}
 use Rattle.paths.specs.Anchors.{Anchor, select, numbered, keptIn, kept}
 use Rattle.paths.specs.Units.{shortestUnit, longestUnit, fitsUnit}
 use Rattle.paths.specs.LookAhead.{ahead, frameOr, rowOr, firstAhead, secondAhead, rowAhead}
-use Rattle.paths.specs.StageProblem.{scoreOf, unitValueOf, boundary, problemOf}
+use Rattle.paths.specs.StageProblem.{unitValueOf, boundary, problemOf}
 use Rattle.paths.proofs.Frames.{increasing-le}
 use Rattle.paths.proofs.LookAhead.{Rising, kept-rising, holds-none, holds-more, admits-ahead, score-ahead}
+use Rattle.stages.specs.Room.{most}
 use Rattle.stages.specs.declared.tables.StageTables.{StageTables}
 use Rattle.stages.specs.Tables.{Tabled, beyond}
-use Rattle.rows.specs.Units.{UnitsOf}
 use Rattle.rows.proofs.Cells.{by-order}
-use Rattle.closed.specs.Searched.{ScoresOf, unitsWith, Agrees, Readable}
+use Rattle.closed.specs.Searched.{Agrees, Readable}
 
 -- ---- what holds of every anchor of a list
 
@@ -89,7 +87,7 @@ fits-both frames h = go (leb shortestUnit frames) (leb frames longestUnit) (leb�
     go false b low high h = absurd h
 
 module _ (phrase : Phrase) (stage : Stage) (t : StageTables) (tabled : Tabled phrase stage t) (anchorsUp : Increasing (stage .anchors))
-    (boundsUp : Increasing (stage .boundaries)) (few : length (stage .boundaries) ≤ 64)
+    (boundsUp : Increasing (stage .boundaries)) (few : length (stage .boundaries) ≤ most)
     (last : (i : ℕ) → i < length (stage .boundaries) → boundary stage i ≤ beyond) (short : length (phrase .mask) ≤ beyond) where
   rising : Rising 0 (kept phrase stage)
   rising = kept-rising (phrase .mask) (stage .firstRow) (stage .anchors) anchorsUp

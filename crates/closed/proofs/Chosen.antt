@@ -1,12 +1,11 @@
 -- Filled rows hold the path chosen: the end over the last row is its end, and the marks lead back to its units. Assumes nothing.
 use mathlib.Core.Bool.{Bool, true, false, cond}
-use mathlib.Core.List.{List, []}
+use mathlib.Core.List.{List}
 use mathlib.Core.Path.{_≡_, refl, sym, ap, subst, _∙_}
-use Prim.Native.Nat.{ℕ, zero, suc, _+_, _*_, _≤_, _<_}
+use Prim.Native.Nat.{ℕ, zero, suc, _*_, _<_}
 use native.Mathlib.Nat.{le-refl}
 use native.Mathlib.Omega.{arith}
 use lib.Ieee.{Float, lt}
-use lib.ListN.{getD}
 use Rattle.paths.specs.Problem.{Problem}
 use Rattle.paths.specs.Path.{Path as Route, begin, gap, unit, end as endOf, sum}
 use Rattle.paths.specs.Cell.{Cell, empty, held, keep, best as bestOf, carry}
@@ -17,10 +16,9 @@ use Rattle.rows.specs.declared.end.End.{End}
 use Rattle.rows.specs.declared.end.End.the-variants.{At, Nowhere}
 use Rattle.rows.specs.Rows.{Holds, unreached, reached}
 use Rattle.rows.specs.Ends.{endCell, StopsOf, EndOf}
-use Rattle.rows.specs.Traced.{markIn, UnitsAre}
-use Rattle.closed.specs.declared.path.Found.the-variants.{Sum, NoPath}
+use Rattle.rows.specs.Traced.{markIn}
 use Rattle.closed.specs.declared.path.Path.{Path}
-use Rattle.closed.specs.Reported.{sumFound, unitsIn, Reports, Backed, LedBack, AllRows}
+use Rattle.closed.specs.Reported.{sumFound, Reports, Backed, LedBack, AllRows}
 use Rattle.closed.proofs.Parts.{part, part-holds}
 
 -- ---- where the path chosen stands in the last row

@@ -1,7 +1,7 @@
 -- The passes in document 01's order: what a pass that finds a path, or finds none, says of the whole answer. Assumes nothing.
 use mathlib.Core.Bool.{Bool, true, false, and-false}
 use mathlib.Core.List.{List, []}
-use mathlib.Core.Path.{_≡_, refl, sym, subst, subst⁻¹, _∙_}
+use mathlib.Core.Path.{_≡_, refl, subst, subst⁻¹, _∙_}
 use Prim.Native.Nat.{ℕ}
 use lib.ListN.{length}
 use Rattle.phrase.specs.Phrase.{Phrase}
@@ -11,7 +11,7 @@ use Rattle.paths.specs.Path.{Path}
 use Rattle.paths.specs.Cell.{Cell}
 use Rattle.paths.specs.CellRule.{chosenPath}
 use Rattle.paths.specs.Passes.{passProblem, passes, speaks, hasNucleus, nonEmpty}
-use Rattle.paths.specs.Demand.{none, unvoiced, Answer as Demanded}
+use Rattle.paths.specs.Demand.{none, Answer as Demanded}
 use Rattle.paths.specs.Search.{orElse, searchBy, chosen}
 use Rattle.rows.specs.Traced.{UnitsAre}
 use Rattle.closed.specs.declared.search.Answer.the-variants.{None, Unvoiced}

@@ -1,4 +1,4 @@
--- What is proved of parts of the work areas, and of rows.
+-- What is proved of parts of the work areas and of the rows in them, of the tables of a stage, and of the answers of the passes.
 pub mod Parts
 pub mod Filling
 pub mod Bridge

@@ -1,13 +1,13 @@
 -- What an accepted record gives every pass over the tables of its stage. Assumes nothing.
 use mathlib.Core.Bool.{true}
 use mathlib.Core.List.{List, [], _∷_}
-use mathlib.Core.Path.{_≡_, refl, sym, subst, _∙_}
-use Prim.Native.Nat.{ℕ, suc, _+_, _*_, _≤_, _<_}
+use mathlib.Core.Path.{_≡_, refl, sym}
+use Prim.Native.Nat.{ℕ, suc, _+_, _≤_, _<_}
 use native.Mathlib.Nat.{mul-le-mul-right}
 use native.Mathlib.Omega.{arith}
 use lib.Ieee.{Float}
-use lib.ListN.{length, getD}
-use Rattle.phrase.specs.Phrase.{Phrase, Stage}
+use lib.ListN.{length}
+use Rattle.phrase.specs.Phrase.{Stage}
 use Rattle.phrase.specs.declared.costs.Costs.{Costs}
 use Rattle.paths.specs.declared.passes.Pass.{Pass}
 use Rattle.paths.specs.declared.passes.Pass.the-variants.{NucleiStrict, CountStrict, CountRelaxed, NucleiRelaxed}
@@ -17,13 +17,14 @@ use Rattle.paths.specs.StageProblem.{boundary}
 use Rattle.paths.specs.Passes.{passProblem, hasNucleus, nonEmpty}
 use Rattle.paths.proofs.Anchors.{keptIn-le}
 use Rattle.record.specs.declared.layout.Layout.{Layout}
-use Rattle.record.specs.Accepted.{Frames, StageFit}
+use Rattle.record.specs.Accepted.{StageFit}
 use Rattle.record.specs.Edition.{edition1}
 use Rattle.record.specs.Layout.{layoutOf}
 use Rattle.record.specs.Meaning.{phraseOf, phraseAt}
 use Rattle.record.specs.Conditions.{frameAt}
 use Rattle.record.proofs.Accepted.{fit}
 use Rattle.record.proofs.Below.{length-listed}
+use Rattle.stages.specs.Room.{most}
 use Rattle.stages.specs.declared.tables.StageTables.{StageTables}
 use Rattle.stages.specs.Tables.{Tabled, beyond}
 use Rattle.closed.specs.Searched.{Agrees, Readable, scoreRows}
@@ -35,10 +36,10 @@ use Rattle.closed.proofs.Bridge.{agrees, readable}
 record Fits (stage : Stage) : Type 0 where
   anchorsUp : Increasing (stage .anchors)
   boundsUp : Increasing (stage .boundaries)
-  few : length (stage .boundaries) ≤ 64
+  few : length (stage .boundaries) ≤ most
   last : (i : ℕ) → i < length (stage .boundaries) → boundary stage i ≤ beyond
 
-fits : {a b : ℕ} {stage : Stage} → b ≤ 64 → StageFit a b stage → Fits stage
+fits : {a b : ℕ} {stage : Stage} → b ≤ most → StageFit a b stage → Fits stage
 fits h s = record {
   anchorsUp = λ i k. s .anchors .rising i (suc i) (omega arith) k;
   boundsUp = λ i k. s .boundaries .rising i (suc i) (omega arith) k;

@@ -1,4 +1,5 @@
--- The definitions of this layer: the tables of a problem, and the rows that are filled from them.
+-- The definitions of this layer: the rows of each count, the problem that the tables of a stage give, what a search is asked and
+-- what it reports, and the answer of the passes.
 pub mod Filled
 pub mod Searched
 pub mod Reported

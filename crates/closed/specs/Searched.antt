@@ -7,6 +7,7 @@ use lib.ListN.{length, getD}
 use Rattle.phrase.specs.Phrase.{Phrase}
 use Rattle.paths.specs.declared.passes.Strictness.{Strictness}
 use Rattle.paths.specs.Problem.{Problem}
+use Rattle.stages.specs.Room.{most}
 use Rattle.stages.specs.declared.tables.StageTables.{StageTables}
 use Rattle.rows.specs.Rows.{GapsOf}
 use Rattle.rows.specs.Units.{UnitTables, unitTables, UnitsOf}
@@ -26,9 +27,9 @@ RowsBelow rows n most = (i : ℕ) → i < n → getD rows i 0 < most
 
 -- an array of them, 0 past the last
 pub record Scored (phrase : Phrase) (rows : List ℕ) (n column : ℕ) (scores : List Float) : Type 0 where
-  pub sized : length scores ≡ 64
+  pub sized : length scores ≡ most
   pub given : ScoresOf phrase rows n column scores
-  pub rest : (i : ℕ) → n ≤ i → i < 64 → getD scores i nan ≡ ofBits binary64 0
+  pub rest : (i : ℕ) → n ≤ i → i < most → getD scores i nan ≡ ofBits binary64 0
 
 -- the tables of one unit, with its scores
 abbrev pub unitsWith : StageTables → List Float → Float → Strictness → UnitTables
@@ -45,7 +46,7 @@ pub record Agrees (phrase : Phrase) (columns : List ℕ) (strictness : Strictnes
 
 -- What may be read of the tables: frames ascend, and so do the two anchors ahead; rows are rows of scores.
 pub record Readable (t : StageTables) (scoreRows : ℕ) : Type 0 where
-  pub few : t .size ≤ 64
+  pub few : t .size ≤ most
   pub ascending : (i j : ℕ) → i ≤ j → j < t .size → getD (t .bounds) i 0 ≤ getD (t .bounds) j 0
   pub anchors : (i : ℕ) → i < t .size → getD (t .first) i 0 ≤ getD (t .second) i 0
   pub rows : RowsBelow (t .row) (t .size) scoreRows

@@ -1,9 +1,10 @@
 // The scores of one unit, by boundary.
 
-ghost use Prim.Native.Nat.{_≤_, _<_, _+_};
+ghost use Prim.Native.Nat.{_≤_, _<_};
 ghost use lib.ListN.{length};
 ghost use Rattle.record.specs.Accepted.{Laid};
 ghost use Rattle.record.specs.Meaning.{phraseOf};
+ghost use Rattle.stages.specs.Room.{most};
 ghost use Rattle.closed.specs.Searched.{RowsBelow, Scored, scoreRows};
 use record::layout::Layout;
 use record::read::score;
@@ -12,7 +13,7 @@ use record::read::score_row;
 // "The table at the anchor's row and the unit's column" (document 01), at the row listed for each of n boundaries.
 pub fn row_scores(bytes: &[u8], at: Layout, rows: &[u32], n: usize, column: usize) -> [f64; 64]
     requires { ⌜ Laid (now bytes) at × (column < at .scores .count) ⌝ }
-    requires { ⌜ (n ≤ 64) × (n ≤ length (now rows)) × RowsBelow (now rows) n (scoreRows (phraseOf (now bytes))) ⌝ }
+    requires { ⌜ (n ≤ most) × (n ≤ length (now rows)) × RowsBelow (now rows) n (scoreRows (phraseOf (now bytes))) ⌝ }
     ensures { λ r. ⌜ Scored (phraseOf (now (bytes .entry))) (now (rows .entry)) n column r ⌝ }
 {
     let mut scores = [0.0f64; 64];

@@ -74,24 +74,32 @@ fn strictness_of(pass: Pass) -> Strictness
     }
 }
 
+// What is asked: a candidate of the record, with the record's layout and cost figures.
+pub struct Task {
+    pub at: Layout,
+    pub costs: Costs,
+    pub candidate: usize,
+}
+
 // One pass, over the tables of its stage.
 pub fn attempt(
     best: &mut [f64],
     back: &mut [u32],
     bytes: &[u8],
-    at: Layout,
-    costs: Costs,
+    task: Task,
     t: StageTables,
     pass: Pass,
-    candidate: usize,
 ) -> Searched
-    requires { ⌜ Candidate (now bytes) at costs candidate × (hasNucleus (phraseOf (now bytes)) ≡ true) ⌝ }
+    requires { ⌜ Candidate (now bytes) (task .at) (task .costs) (task .candidate) × (hasNucleus (phraseOf (now bytes)) ≡ true) ⌝ }
     requires { ⌜ Tabled (phraseOf (now bytes)) (passStage (phraseOf (now bytes)) pass) t ⌝ }
     requires { ⌜ Unused (now best) (now back) (edition1 .«work_cells») ⌝ }
-    ensures { λ r. ⌜ Says (passAnswer (phraseOf (now (bytes .entry))) pass (columnsOf (now (bytes .entry)) candidate)) r ⌝ }
+    ensures { λ r. ⌜ Says (passAnswer (phraseOf (now (bytes .entry))) pass (columnsOf (now (bytes .entry)) (task .candidate))) r ⌝ }
     ensures { λ _. ⌜ (now (best .exit) ≡ now (best .entry)) × (now (back .exit) ≡ now (back .entry)) ⌝ }
 {
     let strictness = strictness_of(pass);
+    let at = task.at;
+    let costs = task.costs;
+    let candidate = task.candidate;
     let path = best_path(best, back, bytes, at, costs, t, strictness, candidate);
     let found = path.found;
     let units = path.units;
@@ -124,16 +132,14 @@ pub fn search(
     best: &mut [f64],
     back: &mut [u32],
     bytes: &[u8],
-    at: Layout,
-    costs: Costs,
+    task: Task,
     nuclei: StageTables,
     added: StageTables,
     runs: Runs,
-    candidate: usize,
 ) -> Searched
-    requires { ⌜ Candidate (now bytes) at costs candidate × RunsOf (phraseOf (now bytes)) runs × BothTabled (phraseOf (now bytes)) nuclei added ⌝ }
+    requires { ⌜ Candidate (now bytes) (task .at) (task .costs) (task .candidate) × RunsOf (phraseOf (now bytes)) runs × BothTabled (phraseOf (now bytes)) nuclei added ⌝ }
     requires { ⌜ Unused (now best) (now back) (edition1 .«work_cells») ⌝ }
-    ensures { λ r. ⌜ Says (chosen (phraseOf (now (bytes .entry))) (columnsOf (now (bytes .entry)) candidate)) r ⌝ }
+    ensures { λ r. ⌜ Says (chosen (phraseOf (now (bytes .entry))) (columnsOf (now (bytes .entry)) (task .candidate))) r ⌝ }
     ensures { λ _. ⌜ (now (best .exit) ≡ now (best .entry)) × (now (back .exit) ≡ now (back .entry)) ⌝ }
 {
     if !runs.voiced {
@@ -142,54 +148,18 @@ pub fn search(
     if !runs.spoken {
         return no_path(Answer::None);
     }
-    let first = attempt(
-        best,
-        back,
-        bytes,
-        at,
-        costs,
-        nuclei,
-        Pass::NucleiStrict,
-        candidate,
-    );
+    let first = attempt(best, back, bytes, task, nuclei, Pass::NucleiStrict);
     let answer = first.answer;
     if answer.is_found() {
         return first;
     }
     if !runs.added {
-        return attempt(
-            best,
-            back,
-            bytes,
-            at,
-            costs,
-            nuclei,
-            Pass::NucleiRelaxed,
-            candidate,
-        );
+        return attempt(best, back, bytes, task, nuclei, Pass::NucleiRelaxed);
     }
-    let second = attempt(
-        best,
-        back,
-        bytes,
-        at,
-        costs,
-        added,
-        Pass::CountStrict,
-        candidate,
-    );
+    let second = attempt(best, back, bytes, task, added, Pass::CountStrict);
     let answer = second.answer;
     if answer.is_found() {
         return second;
     }
-    attempt(
-        best,
-        back,
-        bytes,
-        at,
-        costs,
-        added,
-        Pass::CountRelaxed,
-        candidate,
-    )
+    attempt(best, back, bytes, task, added, Pass::CountRelaxed)
 }

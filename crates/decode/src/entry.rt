@@ -7,6 +7,7 @@ use crate::report::Reported;
 use crate::report::reported_units;
 use closed::search::Answer;
 use closed::search::Searched;
+use closed::search::Task;
 use closed::search::search;
 use entries::ranking::insert_entry;
 use entries::words::EntryHead;
@@ -123,16 +124,20 @@ fn put_candidate(
 {
     let nuclei = plan.nuclei;
     let added = plan.added;
+    let costs = plan.costs;
+    let task = Task {
+        at,
+        costs,
+        candidate,
+    };
     let searched = search(
         best,
         back,
         bytes,
-        at,
-        plan.costs,
+        task,
         nuclei.tables,
         added.tables,
         plan.runs,
-        candidate,
     );
     let entry = score_candidate(bytes, at, plan, candidate, searched);
     let units = entry.units;

@@ -17,7 +17,7 @@ use Rattle.ieee.specs.Value.{Within}
 use Rattle.ieee.proofs.Magnitude.{whole-within, between-within, range-within, neg-within, weaken}
 use Rattle.phrase.specs.Phrase.{silent, spoken}
 use Rattle.record.specs.Bytes.{u64At}
-use Rattle.record.specs.Conditions.{lastFrame, frameAt, lateFrame, unordered, badList, thousand, million, duration?, shortest, longest, tableEntries, badTable}
+use Rattle.record.specs.Conditions.{lastFrame, frameAt, lateFrame, unordered, badList, thousand, million, isDuration, shortest, longest, tableEntries, badTable}
 use Rattle.record.specs.Meaning.{framesAt, durationAt}
 use Rattle.record.specs.Accepted.{Frames}
 use Rattle.record.specs.declared.layout.Section.{Section}
@@ -69,10 +69,10 @@ score-fits p e = between-within million-32-within (ofBits binary32 p) (ofBits-fi
 pub cost-fits : (p : ℕ) → not (within thousand (ofBits binary64 p)) ≡ false → Within binary64 (ofBits binary64 p) 1000
 cost-fits p e = between-within (whole-within binary64 1000 (lit≤ tt)) (ofBits binary64 p) (ofBits-fits binary64 p) (held (within thousand (ofBits binary64 p)) e)
 
-pub duration-fits : (p : ℕ) → not (duration? (ofBits binary64 p)) ≡ false → Within binary64 (ofBits binary64 p) 1000000
+pub duration-fits : (p : ℕ) → not (isDuration (ofBits binary64 p)) ≡ false → Within binary64 (ofBits binary64 p) 1000000
 duration-fits p e =
     range-within (neg-within (whole-within binary64 1000000 (lit≤ tt))) (weaken 1000000 (lit≤ tt) (whole-within binary64 0 (lit≤ tt)))
-    (ofBits binary64 p) (ofBits-fits binary64 p) (held (duration? (ofBits binary64 p)) e)
+    (ofBits binary64 p) (ofBits-fits binary64 p) (held (isDuration (ofBits binary64 p)) e)
 
 -- an entry of a table by its number of frames
 pub table-fits : (bytes : List ℕ) (table : ℕ) → badTable bytes table ≡ false → (frames : ℕ) → shortest ≤ frames → frames ≤ longest → Within binary64 (durationAt bytes table frames) 1000000

@@ -1,6 +1,6 @@
 -- Laws for those above: what a check answers (Answers), what every accepted record has (Accepted), what its readers hand over
--- (Reading), lists by index (Below), and the sample phrase (SamplePhrase). The others are steps on the way.
-mod Tests
+-- (Reading), tests and lists by index (Tests, Below), and the sample phrase (SamplePhrase). The others are steps on the way.
+pub mod Tests
 mod Sizes
 pub mod Below
 mod Entries

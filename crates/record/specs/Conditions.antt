@@ -140,11 +140,11 @@ firstTable costs = costs + 28
 abbrev pub secondTable : ℕ → ℕ
 secondTable costs = costs + 628
 
-abbrev pub duration? : Float → Bool
-duration? = between (neg million) (ofInt binary64 (pos 0))
+abbrev pub isDuration : Float → Bool
+isDuration = between (neg million) (ofInt binary64 (pos 0))
 
 abbrev pub badTable : List ℕ → ℕ → Bool
-badTable bytes table = anyBelow (λ i. not (duration? (f64At bytes (table + 8 * i)))) tableEntries
+badTable bytes table = anyBelow (λ i. not (isDuration (f64At bytes (table + 8 * i)))) tableEntries
 
 -- "The second table belongs to the added stage and is unchecked where A = 0."
 unfoldable pub badCost : List ℕ → Layout → Bool

@@ -11,7 +11,7 @@ ghost use Prim.Native.Nat.{_+_, _*_, _≤_};
 ghost use lib.ListN.{length};
 ghost use Rattle.ieee.specs.Range.{within};
 ghost use Rattle.record.specs.Bounds.{Within};
-ghost use Rattle.record.specs.Conditions.{thousand, million, f32At, f64At, duration?, badScores, badFigures, badTable, badCost};
+ghost use Rattle.record.specs.Conditions.{thousand, million, f32At, f64At, isDuration, badScores, badFigures, badTable, badCost};
 
 // the bits of 1,000,000 and of 1,000
 const MILLION_32: u32 = 0x4974_2400;
@@ -36,7 +36,7 @@ fn cost_fits(bytes: &[u8], at: usize) -> bool
 
 fn duration_fits(bytes: &[u8], at: usize) -> bool
     requires { ⌜ at + 8 ≤ length (now bytes) ⌝ }
-    ensures { λ r. ⌜ r ≡ duration? (f64At (now (bytes .entry)) at) ⌝ }
+    ensures { λ r. ⌜ r ≡ isDuration (f64At (now (bytes .entry)) at) ⌝ }
 {
     nonpositive64(u64_at(bytes, at), MILLION_64)
 }

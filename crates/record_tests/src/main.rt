@@ -4,7 +4,7 @@
 // or the end of its base, so that the back pointers stay what they are. Printed for each case: the number by which the
 // record is refused, 0 for none, without lent buffers and with them.
 //
-// The file stdout holds the answers of an implementation of document 01's table of its own, in Python.
+// make_cases.py makes the input, and the file stdout by an implementation of document 01's table of its own.
 
 use io::large_buffer;
 use io::print_decimal;

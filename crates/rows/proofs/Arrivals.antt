@@ -1,8 +1,7 @@
 -- What the units out of a row bring, origin by origin, and that the look ahead skips only what is barred. Assumes nothing.
-use mathlib.Core.Bool.{Bool, true, false, cond, not, _&&_, _||_, and-false, and-true}
-use mathlib.Core.Path.{_≡_, refl, sym, ap, subst, _∙_}
-use Prim.Native.Nat.{ℕ, suc, _+_, _-_, _≤_, _<_}
-use native.Mathlib.Nat.{le-refl}
+use mathlib.Core.Bool.{Bool, true, false, cond, _&&_, _||_, and-false, and-true}
+use mathlib.Core.Path.{_≡_, refl, sym, subst, _∙_}
+use Prim.Native.Nat.{ℕ, suc, _-_, _≤_, _<_}
 use native.Mathlib.Omega.{arith}
 use lib.Dec.{T, leb, ltb}
 use lib.Ieee.{Float, binary64, add, nan}
@@ -14,12 +13,12 @@ use Rattle.paths.specs.Problem.{Problem}
 use Rattle.paths.specs.Cell.{Cell, empty, held, keep, best as bestOf, carry, only}
 use Rattle.paths.specs.CellRule.{arrival}
 use Rattle.paths.specs.Marks.{Marked, marks}
-use Rattle.paths.specs.Units.{shortestUnit, longestUnit, fitsUnit, mayHold}
-use Rattle.paths.specs.LookAhead.{takenIn}
+use Rattle.paths.specs.Units.{shortestUnit, longestUnit, mayHold}
 use Rattle.rows.specs.declared.way.Way.the-variants.{Unit}
 use Rattle.rows.specs.Ways.{markedBy}
 use Rattle.rows.specs.Units.{UnitTables, frameAt, framesOf, Ordered, gain, UnitsOf}
-use Rattle.rows.proofs.Cells.{higher, keep-empty}
+use Rattle.paths.proofs.Cells.{keep-empty}
+use Rattle.rows.proofs.Cells.{higher}
 
 -- ---- the units of one origin
 

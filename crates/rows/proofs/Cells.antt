@@ -2,12 +2,12 @@
 use mathlib.Core.Bool.{Bool, true, false, cond, not}
 use mathlib.Core.Logic.{_≢_}
 use mathlib.Core.List.{List}
-use mathlib.Core.Path.{_≡_, refl, sym, ap, subst, _∙_}
-use Prim.Native.Nat.{ℕ, suc, _+_, _≤_, _<_}
+use mathlib.Core.Path.{_≡_, refl, sym, ap, _∙_}
+use Prim.Native.Nat.{ℕ, _≤_, _<_}
 use native.Mathlib.Omega.{arith}
-use lib.Dec.{T, eqb, ltb, ltb→lt, nltb→le}
+use lib.Dec.{T, ltb, ltb→lt, nltb→le}
 use lib.Ieee.{Float, lt, nan}
-use lib.ListN.{length, getD, set}
+use lib.ListN.{length, getD}
 use lib.Seq.{getD-set-same, getD-set-other}
 use borrow.Author.Tests.{ne-eqb}
 use Rattle.paths.specs.Cell.{Cell, empty, held, keep}
@@ -27,11 +27,6 @@ by-order {X = X} m n below above = go (ltb m n) (ltb→lt m n) (nltb→le m n)
 -- how two cells compare
 abbrev pub higher : Marked → Marked → Bool
 higher a b = lt (a .value) (b .value)
-
-pub keep-empty : {A : Type 0} (less : A → A → Bool) (cell : Cell A) → keep less cell empty ≡ cell
-unfolding keep
-keep-empty less empty = refl
-keep-empty less (held a) = refl
 
 -- ---- reading
 

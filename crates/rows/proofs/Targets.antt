@@ -1,25 +1,23 @@
 -- The invariants of the two loops that fill a row by units, and their turns: each target in turn gets what the origin brings, and
 -- at the break no later target would get anything. Assumes nothing.
-use mathlib.Core.Bool.{true, false, cond, _&&_, _||_}
+use mathlib.Core.Bool.{true, false}
 use mathlib.Core.List.{List}
 use mathlib.Core.Logic.{_≢_}
-use mathlib.Core.Path.{_≡_, refl, sym, ap, subst, _∙_}
-use Prim.Native.Nat.{ℕ, zero, suc, _+_, _-_, _≤_, _<_}
+use mathlib.Core.Path.{_≡_, refl, sym, subst, _∙_}
+use Prim.Native.Nat.{ℕ, suc, _+_, _≤_, _<_}
 use native.Mathlib.Nat.{le-refl}
 use native.Mathlib.Numerals.{add-one}
 use native.Mathlib.Omega.{arith}
-use lib.Dec.{T, leb, ltb}
 use lib.Ieee.{Float, binary64, add, nan}
 use lib.ListN.{length, getD}
 use Rattle.paths.specs.Problem.{Problem}
-use Rattle.paths.specs.Cell.{Cell, empty, held, keep, best as bestOf}
+use Rattle.paths.specs.Cell.{Cell}
 use Rattle.paths.specs.Marks.{Marked, marks}
-use Rattle.paths.specs.Units.{shortestUnit, longestUnit, mayHold}
 use Rattle.rows.specs.declared.way.Way.the-variants.{Unit}
-use Rattle.rows.specs.Ways.{Offered, markedBy}
+use Rattle.rows.specs.Ways.{Offered}
 use Rattle.rows.specs.Rows.{Row, HoldsAt, Same, first, next, unfilled}
-use Rattle.rows.specs.Units.{UnitTables, frameAt, framesOf, Ordered, gain, UnitsOf, arrivals, NextFilled}
-use Rattle.rows.proofs.Cells.{by-order, higher, holds-empty, holds-held, same-refl, same-sym, same-trans, same-holds, offer-keeps, offer-beside}
+use Rattle.rows.specs.Units.{UnitTables, UnitsOf, arrivals, NextFilled}
+use Rattle.rows.proofs.Cells.{by-order, holds-empty, holds-held, same-refl, same-sym, same-trans, same-holds, offer-keeps, offer-beside}
 use Rattle.rows.proofs.Arrivals.{brought, brought-zero, brought-none, brought-barred, brought-unit}
 
 -- the cell of boundary j in the next row has what the first m origins bring, whatever row they stand in

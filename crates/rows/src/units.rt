@@ -5,7 +5,7 @@ ghost use mathlib.Core.Path.{_≡_};
 ghost use Prim.Native.Nat.{_+_, _-_, _≤_, _<_, _^_};
 ghost use lib.Dec.{leb};
 ghost use lib.ListN.{length};
-ghost use Rattle.paths.specs.Units.{shortestUnit, longestUnit, mayHold};
+ghost use Rattle.paths.specs.Units.{shortestUnit, mayHold};
 ghost use Rattle.rows.specs.Rows.{Row, SomeRow, next, unfilled};
 ghost use Rattle.rows.specs.Units.{unitTables, Ordered, gain, UnitsFilled};
 use crate::way::Way;
@@ -35,7 +35,8 @@ pub fn gained(score: f64, unvoiced: f64, first: u32, to: u32, duration: &[f64], 
     }
 }
 
-// `best` and `back` start at the row that the units come from; the next row follows it.
+// The units from each boundary of a row, lowest origin first, into the row that follows it: `best` and `back` start at
+// the row that the units come from. A target is offered its unit by the cell rule.
 pub fn fill_units<'a>(
     best: &mut [f64],
     back: &mut [u32],
@@ -63,6 +64,7 @@ pub fn fill_units<'a>(
             'targets: for j in i + 1..n {
                 let to = bounds[j];
                 let frames = to - from;
+                // "stops for good at the first that is over 80 frames away or takes in a second anchor"
                 if (frames > 80) | (to > another) {
                     break 'targets;
                 }

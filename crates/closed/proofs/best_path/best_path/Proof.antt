@@ -1,13 +1,12 @@
 -- `closed::best_path::best_path` meets its contract. Assumes nothing.
 use mathlib.Core.List.{List, [], _++_}
-use mathlib.Core.Path.{_≡_, sym, ap, subst, subst⁻¹, _∙_}
-use Prim.Native.Nat.{ℕ, suc, _+_, _*_, _≤_, _<_}
+use mathlib.Core.Path.{_≡_, ap, subst, subst⁻¹, _∙_}
+use Prim.Native.Nat.{ℕ, suc, _+_, _*_}
 use native.Mathlib.Omega.{arith}
-use lib.Ieee.{Float, binary64, nan, ofBits}
+use lib.Ieee.{binary64, nan, ofBits}
 use lib.ListN.{length, drop, replicate}
-use Rattle.paths.specs.Problem.{Problem}
-use Rattle.record.specs.Meaning.{phraseOf}
 use Rattle.record.proofs.Accepted.{fit}
+use Rattle.stages.specs.Room.{most}
 use Rattle.closed.specs.Reported.{AllRows, Reports}
 use Rattle.closed.specs.Asked.{columnsOf, cellsFor}
 use Rattle.closed.proofs.Restored.{restored, zero-value, zero-mark}
@@ -15,7 +14,7 @@ use borrow.Author.Needs.{needs}
 use Rattle.closed.proofs.best_path.best_path.Statement.{statement}
 use Rattle.closed.proofs.best_path.best_path.Tie as tie
 
-stop-long : (c : tie.Start) → length (c .args .t6 .stop) ≡ 64
+stop-long : (c : tie.Start) → length (c .args .t6 .stop) ≡ most
 stop-long c = search (needs, c .good .1 .1 .1 .1 .1 .0)
 
 abbrev columns : tie.Start → List ℕ

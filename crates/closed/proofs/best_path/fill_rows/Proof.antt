@@ -1,8 +1,8 @@
 -- `closed::best_path::fill_rows` meets its contract: proofs/AllRows.antt has the rows. Assumes nothing.
 use mathlib.Core.Bool.{not}
 use mathlib.Core.List.{List, []}
-use mathlib.Core.Path.{_≡_, refl, sym, ap, subst, subst⁻¹, _∙_}
-use Prim.Native.Nat.{ℕ, suc, _+_, _-_, _*_, _≤_, _<_}
+use mathlib.Core.Path.{_≡_, sym, ap, subst, subst⁻¹, _∙_}
+use Prim.Native.Nat.{ℕ, _+_, _-_, _<_}
 use native.Mathlib.Nat.{le-refl}
 use native.Mathlib.Omega.{arith}
 use lib.Dec.{T}
@@ -14,6 +14,7 @@ use Rattle.phrase.specs.declared.costs.Costs.{Costs}
 use Rattle.record.specs.Meaning.{phraseOf}
 use Rattle.record.proofs.Accepted.{fit}
 use Rattle.record.proofs.Reading.{within-real}
+use Rattle.stages.specs.Room.{most}
 use Rattle.stages.specs.declared.tables.StageTables.{StageTables}
 use Rattle.paths.specs.CellRule.{rows}
 use Rattle.paths.specs.Marks.{marks}
@@ -35,12 +36,12 @@ abbrev μ-loop : tie.MeasureT-loop
 
 -- the tables are arrays
 record Arrays (t : StageTables) : Type 0 where
-  bounds : length (t .bounds) ≡ 64
-  start : length (t .start) ≡ 64
-  gap : length (t .gap) ≡ 64
-  first : length (t .first) ≡ 64
-  second : length (t .second) ≡ 64
-  row : length (t .row) ≡ 64
+  bounds : length (t .bounds) ≡ most
+  start : length (t .start) ≡ most
+  gap : length (t .gap) ≡ most
+  first : length (t .first) ≡ most
+  second : length (t .second) ≡ most
+  row : length (t .row) ≡ most
   duration : length (t .duration) ≡ 75
 
 arrays : (c : tie.Start Inv-loop μ-loop) → Arrays (c .args .t6)

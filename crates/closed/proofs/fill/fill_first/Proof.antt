@@ -1,13 +1,13 @@
 -- `closed::fill::fill_first` meets its contract. Assumes nothing.
 use mathlib.Core.List.{List}
-use mathlib.Core.Path.{_≡_, refl, sym, ap, subst}
-use Prim.Native.Nat.{ℕ, _≤_, _<_}
+use mathlib.Core.Path.{subst}
+use Prim.Native.Nat.{ℕ}
 use lib.Ieee.{Float}
 use Rattle.paths.specs.Problem.{Problem}
-use Rattle.paths.specs.Cell.{Cell, held}
-use Rattle.paths.specs.CellRule.{rows, sweep}
-use Rattle.paths.specs.Marks.{Marked, marks}
-use Rattle.rows.specs.Rows.{Row, HoldsAt, first, startCells, FirstFilled, GapsOf, Swept}
+use Rattle.paths.specs.Cell.{held}
+use Rattle.paths.specs.CellRule.{rows}
+use Rattle.paths.specs.Marks.{marks}
+use Rattle.rows.specs.Rows.{HoldsAt, startCells, FirstFilled, Swept}
 use Rattle.rows.proofs.Cells.{same-trans}
 use Rattle.closed.specs.Filled.{StartsOf}
 use borrow.Author.Needs.{needs}

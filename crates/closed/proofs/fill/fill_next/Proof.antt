@@ -1,5 +1,5 @@
 -- `closed::fill::fill_next` meets its contract: proofs/Filling.antt has the two parts that are lent. Assumes nothing.
-use Prim.Native.Nat.{_+_, _*_}
+use Prim.Native.Nat.{_*_}
 use native.Mathlib.Omega.{arith}
 use borrow.Author.Needs.{needs}
 use Rattle.rows.specs.Units.{UnitTables, unitTables}

@@ -1,7 +1,7 @@
 -- `closed::path::led_back` meets its contract. Assumes nothing.
-use mathlib.Core.Path.{_≡_, refl, sym, subst}
+use mathlib.Core.Path.{refl, subst}
 use Rattle.rows.specs.declared.end.End.{End}
-use Rattle.closed.specs.Reported.{Backed, LedBack}
+use Rattle.closed.specs.Reported.{Backed}
 use borrow.Author.Needs.{needs}
 use Rattle.closed.proofs.path.led_back.Statement.{statement}
 use Rattle.closed.proofs.path.led_back.Tie as tie

@@ -1,30 +1,30 @@
 -- `closed::scores::row_scores` meets its contract. Assumes nothing.
 use mathlib.Core.List.{List}
-use mathlib.Core.Path.{_≡_, refl, sym, ap, subst, _∙_}
-use Prim.Native.Nat.{ℕ, _+_, _-_, _*_, _≤_, _<_}
+use mathlib.Core.Path.{_≡_, refl, _∙_}
+use Prim.Native.Nat.{ℕ, _+_, _-_, _≤_, _<_}
 use native.Mathlib.Omega.{arith}
 use lib.Ieee.{Float, binary64, nan, ofBits}
-use lib.ListN.{length, getD, set, length-set, getD-replicate, replicate}
+use lib.ListN.{length, getD, set, length-set, getD-replicate}
 use lib.Seq.{getD-set-same, getD-set-other}
 use borrow.Author.Count.{below-more}
 use borrow.Author.Needs.{needs}
 use Rattle.phrase.specs.Phrase.{Phrase}
-use Rattle.record.specs.Conditions.{f32At}
 use Rattle.record.specs.Meaning.{phraseOf}
-use Rattle.closed.specs.Searched.{ScoresOf, Scored}
+use Rattle.stages.specs.Room.{most}
+use Rattle.closed.specs.Searched.{ScoresOf}
 use Rattle.closed.proofs.scores.row_scores.Statement.{statement}
 use Rattle.closed.proofs.scores.row_scores.Tie as tie
 
 -- boundaries below i have their scores
 record Scoring (phrase : Phrase) (rows : List ℕ) (n column : ℕ) (scores : List Float) (i : ℕ) : Type 0 where
   bounded : i ≤ n
-  sized : length scores ≡ 64
+  sized : length scores ≡ most
   given : ScoresOf phrase rows i column scores
-  rest : (j : ℕ) → i ≤ j → j < 64 → getD scores j nan ≡ ofBits binary64 0
+  rest : (j : ℕ) → i ≤ j → j < most → getD scores j nan ≡ ofBits binary64 0
 
 scoring-more :
     {phrase : Phrase} {rows : List ℕ} {n column : ℕ} {scores : List Float} {i : ℕ} {score : Float} → Scoring phrase rows n column scores i →
-    i < n → n ≤ 64 → score ≡ phrase .score (getD rows i 0) column → Scoring phrase rows n column (set scores i score) (i + 1)
+    i < n → n ≤ most → score ≡ phrase .score (getD rows i 0) column → Scoring phrase rows n column (set scores i score) (i + 1)
 scoring-more {phrase} {rows} {column = column} {scores = scores} {i = i} {score = score} was more few is = record {
   bounded = omega arith;
   sized = length-set scores i score ∙ was .sized;
@@ -45,7 +45,7 @@ loop-holds c = record {
   bounded = omega arith;
   sized = refl;
   given = λ j h. absurd (omega arith);
-  rest = λ j h k. getD-replicate 64 j (ofBits binary64 0) nan k;
+  rest = λ j h k. getD-replicate most j (ofBits binary64 0) nan k;
 }
 
 mul-row : tie.Need-mul-row Inv-loop μ-loop

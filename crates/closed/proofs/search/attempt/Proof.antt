@@ -1,6 +1,6 @@
 -- `closed::search::attempt` meets its contract. Assumes nothing.
 use mathlib.Core.List.{List}
-use mathlib.Core.Path.{_≡_, sym, subst⁻¹}
+use mathlib.Core.Path.{subst⁻¹}
 use Prim.Native.Nat.{ℕ}
 use lib.ListN.{length}
 use Rattle.phrase.specs.Phrase.{Phrase}
@@ -20,7 +20,7 @@ abbrev phrase : tie.Start → Phrase
 phrase c = phraseOf (c .args .bytes .now)
 
 abbrev columns : tie.Start → List ℕ
-columns c = columnsOf (c .args .bytes .now) (c .args .candidate)
+columns c = columnsOf (c .args .bytes .now) (c .args .task .candidate)
 
 -- the problem of the pass
 abbrev problem : tie.Start → Problem
@@ -38,12 +38,12 @@ strictness-of-requires c κs = search needs
 
 best-path-requires : tie.Need-best-path-requires
 best-path-requires c κs =
-    let start = c .before .before .before .before .before .before in
+    let start = c .before .before .before .before .before .before .before .before in
     let a = start .args in
     let asked = start .pre .0 .0 in (
       asked,
       (
-        (pass-readable asked (a .pass) (start .pre .1 .0) (start .pre .0 .1), (problem start, agreed (c .before .before))),
+        (pass-readable asked (a .pass) (start .pre .1 .0) (start .pre .0 .1), (problem start, agreed (c .before .before .before .before))),
         pass-cells asked (a .pass) (start .pre .1 .0) (a .best .now) (a .back .now) (start .pre .1 .1),
       ),
     )
@@ -62,9 +62,9 @@ same-length-2 c = search needs
 
 returns : tie.Need-returns
 returns c =
-    let start = c .before .before .before .before .before .before .before .before .before .before .before .before .before .before .before in
+    let start = c .before .before .before .before .before .before .before .before .before .before .before .before .before .before .before .before .before in
     let path = c .before .before .before .before .before .before .before .before .best-path in (
-      says-found (start .args .pass) (problem start) (length (columns start)) (path .result) (path .ensures .0 (problem start) (agreed (c .before .before .before .before .before .before .before .before .before .before .before))) (c .before .found .given .1),
+      says-found (start .args .pass) (problem start) (length (columns start)) (path .result) (path .ensures .0 (problem start) (agreed (c .before .before .before .before .before .before .before .before .before .before .before .before .before))) (c .before .found .given .1),
       path .ensures .1,
     )
 
@@ -76,9 +76,9 @@ same-length-4 c = search needs
 
 returns-2 : tie.Need-returns-2
 returns-2 c =
-    let start = c .before .before .before .before .before .before .before .before .before .before .before .before .before .before in
+    let start = c .before .before .before .before .before .before .before .before .before .before .before .before .before .before .before .before in
     let path = c .before .before .before .before .before .before .before .best-path in (
-      says-none (start .args .pass) (problem start) (length (columns start)) (path .result) (path .ensures .0 (problem start) (agreed (c .before .before .before .before .before .before .before .before .before .before))) (c .enum-told .given .1),
+      says-none (start .args .pass) (problem start) (length (columns start)) (path .result) (path .ensures .0 (problem start) (agreed (c .before .before .before .before .before .before .before .before .before .before .before .before))) (c .enum-told .given .1),
       path .ensures .1,
     )
 

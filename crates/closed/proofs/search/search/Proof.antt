@@ -1,5 +1,5 @@
 -- `closed::search::search` meets its contract: proofs/InOrder.antt has the order of the passes. Assumes nothing.
-use mathlib.Core.Bool.{true, false}
+use mathlib.Core.Bool.{true}
 use mathlib.Core.List.{List}
 use mathlib.Core.Path.{_≡_, refl, sym, _∙_}
 use Prim.Native.Nat.{ℕ}
@@ -18,7 +18,7 @@ abbrev phrase : tie.Start → Phrase
 phrase c = phraseOf (c .args .bytes .now)
 
 abbrev columns : tie.Start → List ℕ
-columns c = columnsOf (c .args .bytes .now) (c .args .candidate)
+columns c = columnsOf (c .args .bytes .now) (c .args .task .candidate)
 
 -- what the tests say of the phrase
 voiced : (c : tie.Else1) → hasNucleus (phrase (c .before .before .before .before .before)) ≡ true

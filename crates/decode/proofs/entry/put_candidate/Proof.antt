@@ -13,7 +13,7 @@ use Rattle.decode.proofs.entry.put_candidate.Tie as tie
 
 search-requires : tie.Need-search-requires
 search-requires c κs =
-    let pre = c .before .before .before .before .before .before .before .before .pre in
+    let pre = c .before .before .before .before .before .before .before .before .before .pre in
     ((record { laid = pre .0; figures = pre .1 .1 .0 .costs; listed = pre .1 .0 }, pre .1 .1 .0 .runs, both-tabled (pre .1 .1 .0)), pre .1 .1 .1 .0)
 
 score-candidate-requires : tie.Need-score-candidate-requires
@@ -30,7 +30,7 @@ slice-aggregate-insert-entry-3 c = search needs
 
 insert-entry-requires : tie.Need-insert-entry-requires
 insert-entry-requires c κs =
-    let pre = c .before .before .before .before .before .before .before .before .before .before .before .before .before .before .before .before .before .before .before .before .before .before .pre in
+    let pre = c .before .before .before .before .before .before .before .before .before .before .before .before .before .before .before .before .before .before .before .before .before .before .before .pre in
     let s = c .before .before .before .before .before .before .before .before .score-candidate .ensures in (
       pre .1 .1 .1 .1,
       record {
@@ -54,7 +54,7 @@ same-length-3 c = search needs
 returns : tie.Need-returns
 returns c =
     let s = c .before .before .before .before .before .before .before .before .before .before .before .score-candidate .ensures in
-    let a = c .before .before .before .before .before .before .before .before .before .before .before .before .before .before .before .before .before .before .before .before .before .before .before .before .before .args in
+    let a = c .before .before .before .before .before .before .before .before .before .before .before .before .before .before .before .before .before .before .before .before .before .before .before .before .before .before .args in
     let entry = entryOf (phraseOf (a .bytes .now)) (candidateOf (phraseOf (a .bytes .now)) (a .candidate)) in
     (subst (λ (e : Entry). Inserted 16 (a .candidate) e (a .out .now) (c .before .before .insert-entry .last .0)) (s .whole) (c .before .before .insert-entry .ensures (entry .total)), c .before .before .before .before .before .before .before .before .before .before .before .before .before .before .before .before .search .ensures .1)
 

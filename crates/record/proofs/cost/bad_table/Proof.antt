@@ -5,13 +5,13 @@ use mathlib.Core.List.{List}
 use mathlib.Core.Path.{_≡_, sym, ap, _∙_}
 use native.Mathlib.Omega.{arith}
 use Rattle.record.specs.Below.{anyBelow}
-use Rattle.record.specs.Conditions.{f64At, duration?, tableEntries}
+use Rattle.record.specs.Conditions.{f64At, isDuration, tableEntries}
 use Rattle.record.proofs.Below.{any-none, any-more, any-found, any-end}
 use Rattle.record.proofs.cost.bad_table.Statement.{statement}
 use Rattle.record.proofs.cost.bad_table.Tie as tie
 
 abbrev Test : List ℕ → ℕ → ℕ → Bool
-Test bytes table i = not (duration? (f64At bytes (table + 8 * i)))
+Test bytes table i = not (isDuration (f64At bytes (table + 8 * i)))
 
 abbrev Inv-loop : tie.InvT-loop
 Inv-loop bytes table i₀ i = (i ≤ tableEntries) × (anyBelow (Test bytes table) i ≡ false)

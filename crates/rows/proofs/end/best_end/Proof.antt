@@ -1,20 +1,21 @@
 -- `rows::end::best_end` meets its contract. Assumes nothing.
 use mathlib.Core.List.{List}
 use mathlib.Core.Logic.{_≢_, ⊎-elim}
-use mathlib.Core.Path.{_≡_, refl, sym, ap, subst, _∙_}
+use mathlib.Core.Path.{_≡_, refl, sym, ap, _∙_}
 use Prim.Native.Nat.{ℕ, suc, _+_, _-_, _≤_, _<_}
 use native.Mathlib.Numerals.{add-one}
 use native.Mathlib.Omega.{arith}
 use lib.Ieee.{Float, binary64, sub, nan}
-use lib.ListN.{length, getD}
+use lib.ListN.{getD}
 use borrow.Author.Needs.{needs}
 use Rattle.paths.specs.Problem.{Problem}
-use Rattle.paths.specs.Cell.{Cell, empty, held, keep, best as bestOf, carry}
+use Rattle.paths.specs.Cell.{Cell, held, keep, best as bestOf, carry}
 use Rattle.paths.specs.Marks.{Marked, chosenEnd, End as Ended}
 use Rattle.rows.specs.declared.end.End.{End}
 use Rattle.rows.specs.Ends.{endCell, higherEnd, StopsOf}
 use Rattle.rows.specs.Rows.{Row, HoldsAt, first}
-use Rattle.rows.proofs.Cells.{keep-empty, holds-empty, holds-held}
+use Rattle.paths.proofs.Cells.{keep-empty}
+use Rattle.rows.proofs.Cells.{holds-empty, holds-held}
 use Rattle.rows.proofs.end.best_end.Statement.{statement}
 use Rattle.rows.proofs.end.best_end.Tie as tie
 

@@ -3,19 +3,19 @@ use mathlib.Core.List.{List}
 use mathlib.Core.Logic.{_≢_, ⊎-elim}
 use mathlib.Core.Path.{_≡_, refl, sym, ap, subst, _∙_}
 use Prim.Native.Nat.{ℕ, zero, suc, _+_, _-_, _≤_, _<_}
-use native.Mathlib.Nat.{le-refl}
 use native.Mathlib.Omega.{arith}
 use lib.Ieee.{Float, binary64, sub, nan}
 use lib.ListN.{length, getD}
 use borrow.Author.Count.{below-more}
 use Rattle.paths.specs.Problem.{Problem}
-use Rattle.paths.specs.Cell.{Cell, empty, held, keep, carry}
+use Rattle.paths.specs.Cell.{Cell, held, keep, carry}
 use Rattle.paths.specs.CellRule.{sweep}
 use Rattle.paths.specs.Marks.{Marked, marks}
 use Rattle.rows.specs.declared.way.Way.the-variants.{Gap}
 use Rattle.rows.specs.Ways.{Offered, markedBy}
 use Rattle.rows.specs.Rows.{Row, HoldsAt, Same, first, GapsOf}
-use Rattle.rows.proofs.Cells.{higher, keep-empty, holds-empty, holds-held, same-refl, same-trans, same-holds, offer-keeps, offer-beside}
+use Rattle.paths.proofs.Cells.{keep-empty}
+use Rattle.rows.proofs.Cells.{higher, holds-empty, holds-held, same-refl, same-trans, same-holds, offer-keeps, offer-beside}
 use Rattle.rows.proofs.gaps.sweep_gaps.Statement.{statement}
 use Rattle.rows.proofs.gaps.sweep_gaps.Tie as tie
 

@@ -1,6 +1,6 @@
 -- `rows::units::admits` meets its contract. Assumes nothing.
 use mathlib.Core.Bool.{Bool, true, cond, _&&_, and-true}
-use mathlib.Core.Path.{_≡_, refl, sym, ap, _∙_}
+use mathlib.Core.Path.{_≡_, sym, ap, _∙_}
 use Prim.Native.Nat.{ℕ}
 use lib.Dec.{leb, ltb}
 use borrow.Author.Needs.{needs}

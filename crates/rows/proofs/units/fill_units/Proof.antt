@@ -1,12 +1,10 @@
 -- `rows::units::fill_units` meets its contract: proofs/Targets.antt has the invariants and their turns. Assumes nothing.
 use mathlib.Core.Logic.{⊎-elim}
-use mathlib.Core.Path.{_≡_, refl, sym, subst, _∙_}
-use Prim.Native.Nat.{_+_, _-_, _≤_, _<_}
+use Prim.Native.Nat.{_-_}
 use native.Mathlib.Omega.{arith}
-use lib.ListN.{length, getD}
 use borrow.Author.Needs.{needs}
 use Rattle.rows.specs.Units.{UnitTables, unitTables}
-use Rattle.rows.proofs.Arrivals.{past, asked, in-table, past-barred, near-barred, near-unit}
+use Rattle.rows.proofs.Arrivals.{in-table, past-barred, near-barred, near-unit}
 use Rattle.rows.proofs.Targets.{Origins, Targets, origins-begin, origins-end, targets-begin, targets-end, origin-unreached, target-barred, target-offered}
 use Rattle.rows.proofs.units.fill_units.Statement.{statement}
 use Rattle.rows.proofs.units.fill_units.Tie as tie

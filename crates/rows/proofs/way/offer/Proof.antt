@@ -1,7 +1,7 @@
 -- `rows::way::offer` meets its contract. Assumes nothing.
 use mathlib.Core.Bool.{true, false, _||_}
 use mathlib.Core.List.{List}
-use mathlib.Core.Path.{_≡_, refl}
+use mathlib.Core.Path.{_≡_}
 use Prim.Native.Nat.{ℕ}
 use lib.Dec.{eqb}
 use lib.Ieee.{Float, lt, nan}

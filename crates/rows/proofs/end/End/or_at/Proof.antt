@@ -1,8 +1,5 @@
 -- `rows::end::End::or_at` meets its contract. Assumes nothing.
-use mathlib.Core.Path.{_≡_, refl, sym, ap}
-use Rattle.paths.specs.Cell.{keep, held}
-use Rattle.rows.specs.declared.end.End.{End}
-use Rattle.rows.specs.Ends.{endCell, higherEnd}
+use Rattle.paths.specs.Cell.{keep}
 use borrow.Author.Needs.{needs}
 use Rattle.rows.proofs.end.End.or_at.Statement.{statement}
 use Rattle.rows.proofs.end.End.or_at.Tie as tie

@@ -1,0 +1,21 @@
+//! The original Rust as the judge of decoding: its files built unmodified over stand-ins (`standins.rs`), and what it
+//! answers for a phrase record, as document 01's result words.
+
+extern crate self as tonekit_core;
+extern crate self as tonekit_pack;
+extern crate self as tonekit_segment;
+extern crate self as tonekit_shape;
+
+pub mod brute;
+pub mod generate;
+pub mod listing;
+pub mod maker;
+pub mod phrase;
+pub mod random;
+pub mod reference;
+mod standins;
+
+pub use joins::{Joins, JOIN_TRIM_FRAMES};
+pub use standins::*;
+
+include!(concat!(env!("OUT_DIR"), "/original.rs"));
