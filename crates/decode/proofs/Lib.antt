@@ -7,8 +7,12 @@ pub mod Decodes
 pub mod OneOutcome
 mod Placing
 mod Fronts
+mod HeldUnits
+mod Admitted
 mod Reporting
 mod Plans
+mod Said
+mod Tried
 mod Scoring
 mod InTurn
 mod Cleared

@@ -1,87 +1,41 @@
 -- From the arrays that the code fills to the units that are to be reported.
 use Prim.Native.Nat.{ℕ, zero, suc, _+_, _-_, _≤_, _<_}
-use mathlib.Core.Bool.{Bool, true, false, not, cond}
+use mathlib.Core.Bool.{cond}
 use mathlib.Core.List.{List, [], _∷_, _++_, map, zipWith}
-use mathlib.Core.Path.{_≡_, refl, sym, ap, ap₂, subst, _∙_}
+use mathlib.Core.Path.{_≡_, refl, sym, ap, ap₂, _∙_}
 use native.Mathlib.Omega.{arith}
-use lib.Dec.{T, eqb, ltb, ltb→lt, nltb→le}
-use lib.ListN.{length, getD, take, replicate, length-map, length-replicate, getD-replicate, List·getD-append, length-append}
-use lib.Seq.{ext-getD, getD-append-seam, getD-take, length-take-le}
+use lib.Dec.{eqb}
+use lib.ListN.{length, getD, take, replicate, length-map, length-replicate, List·getD-append, length-append}
+use lib.Seq.{ext-getD, getD-take, length-take-le}
 use Rattle.phrase.specs.Phrase.{Phrase, Stage}
 use Rattle.paths.specs.declared.passes.Strictness.{Strictness}
 use Rattle.paths.specs.Frames.{Increasing}
 use Rattle.paths.specs.Anchors.{Anchor, kept}
-use Rattle.paths.specs.LookAhead.{rowAhead, rowOr}
-use Rattle.paths.specs.StageProblem.{boundary, problemOf}
+use Rattle.paths.specs.LookAhead.{rowAhead}
+use Rattle.paths.specs.StageProblem.{boundary}
 use Rattle.paths.specs.Marks.{Bounds}
-use Rattle.paths.proofs.PathUnits.{InOrder, no-units, later-end, one-more}
 use Rattle.stages.specs.declared.tables.StageTables.{StageTables}
 use Rattle.stages.specs.Tables.{Tabled, beyond}
-use Rattle.stages.specs.Listed.{padded, listed}
+use Rattle.stages.specs.Listed.{padded, listed, tableOf}
 use Rattle.stages.specs.Made.{tablesOf}
 use Rattle.stages.proofs.Listed.{length-listed, listed-at, padded-in, length-padded, table-at, length-table}
 use Rattle.rows.specs.declared.trace.Units.{Units}
 use Rattle.rows.specs.Traced.{firstsOf, lastsOf, UnitsAre}
+use Rattle.rows.specs.Traced as Traced
 use Rattle.prepare.specs.declared.side.Side.{Side}
-use Rattle.prepare.specs.declared.side.Listed.{Listed}
-use Rattle.prepare.specs.Sides.{SideOf}
+use Rattle.prepare.specs.Sides.{durationsOf, SideOf}
 use Rattle.prepare.proofs.Lists.{its-length, its-front}
-use Rattle.clip.specs.Clip.{Placed, anchored, unanchored, reported, startsOf, endsOf}
+use Rattle.clip.specs.Clip.{Placed, anchored, unanchored, reported}
 use Rattle.clip.specs.Units.{unitAt, unitsFrom, unitsOf}
 use Rattle.clip.specs.declared.clip.Span.{Span}
-use Rattle.entries.specs.Entry.{ReportedUnit, noRow}
-use Rattle.entries.specs.EntryFrom as Entries
+use Rattle.entries.specs.Entry.{noRow}
 use Rattle.decode.specs.declared.report.PlacedUnit.{PlacedUnit}
 use Rattle.decode.specs.declared.report.Reported.{Reported}
 use Rattle.decode.specs.Report.{lowEdge, highEdge, heldBy, placed, reportedUnit, reportedIn}
-use Rattle.decode.specs.Places.{placeOf, placeAt, Placeable, placedList, ReportedAll, missedAt, unitless, Holds}
+use Rattle.decode.specs.Places.{placeOf, placeAt, Placeable, placedList, ReportedAll, unitless, Holds}
 use Rattle.decode.proofs.Units.{length-reported, length-reportedIn}
 use Rattle.decode.proofs.Placing.{placeIn, UnitOk, placed-by-tables, told-by-row}
-
--- ---- the units of an entry are those that the arrays hold
-
-module _ (r : Reported) where
-  from-arrays : (us : List ReportedUnit) (i : ℕ)
-      → ((j : ℕ) → j < length us → getD (r .starts) (i + j) 0 ≡ getD us j unitless .start)
-      → ((j : ℕ) → j < length us → getD (r .ends) (i + j) 0 ≡ getD us j unitless .end)
-      → ((j : ℕ) → j < length us → getD (r .rows) (i + j) 0 ≡ getD us j unitless .row)
-      → Entries.unitsFrom (r .starts) (r .ends) (r .rows) (length us) i ≡ us
-  unfolding Entries.unitsFrom
-  from-arrays [] i starts ends rows = refl
-  from-arrays (u ∷ us) i starts ends rows =
-      let here : i ≡ i + 0 = omega arith in
-      let some : 0 < suc (length us) = omega arith in
-      ap₂ (λ (x : ReportedUnit) (xs : List ReportedUnit). x ∷ xs)
-      (λ t. record {
-        start = (ap (λ (n : ℕ). getD (r .starts) n 0) here ∙ starts 0 some) t;
-        end = (ap (λ (n : ℕ). getD (r .ends) n 0) here ∙ ends 0 some) t;
-        row = (ap (λ (n : ℕ). getD (r .rows) n 0) here ∙ rows 0 some) t;
-      })
-      (from-arrays us (suc i)
-      (λ j h. let e : suc i + j ≡ i + suc j = omega arith in ap (λ (n : ℕ). getD (r .starts) n 0) e ∙ starts (suc j) (omega arith))
-      (λ j h. let e : suc i + j ≡ i + suc j = omega arith in ap (λ (n : ℕ). getD (r .ends) n 0) e ∙ ends (suc j) (omega arith))
-      (λ j h. let e : suc i + j ≡ i + suc j = omega arith in ap (λ (n : ℕ). getD (r .rows) n 0) e ∙ rows (suc j) (omega arith)))
-
-pub held-units : {units : List ReportedUnit} {r : Reported} → Holds units r → Entries.unitsFrom (r .starts) (r .ends) (r .rows) (length units) 0 ≡ units
-held-units {units} {r} h =
-    from-arrays r units 0
-    (λ j below. let e : 0 + j ≡ j = omega arith in ap (λ (n : ℕ). getD (r .starts) n 0) e ∙ h .starts j below)
-    (λ j below. let e : 0 + j ≡ j = omega arith in ap (λ (n : ℕ). getD (r .ends) n 0) e ∙ h .ends j below)
-    (λ j below. let e : 0 + j ≡ j = omega arith in ap (λ (n : ℕ). getD (r .rows) n 0) e ∙ h .rows j below)
-
-pub missed-hold : (k at : ℕ) → k ≤ 16 → Holds (replicate k (record { start = at; end = at; row = noRow })) (missedAt at)
-missed-hold k at few =
-    let unit : ReportedUnit = record { start = at; end = at; row = noRow } in
-    let long = length-replicate k unit in
-    record {
-      few = omega (arith, long);
-      starts = λ i h. getD-replicate 16 i at 0 (omega (arith, long)) ∙ sym (ap (λ (u : ReportedUnit). u .start) (getD-replicate k i unit unitless (omega (arith, long))));
-      ends = λ i h. getD-replicate 16 i at 0 (omega (arith, long)) ∙ sym (ap (λ (u : ReportedUnit). u .end) (getD-replicate k i unit unitless (omega (arith, long))));
-      rows = λ i h. getD-replicate 16 i noRow 0 (omega (arith, long)) ∙ sym (ap (λ (u : ReportedUnit). u .row) (getD-replicate k i unit unitless (omega (arith, long))));
-      startsLong = length-replicate 16 at;
-      endsLong = length-replicate 16 at;
-      rowsLong = length-replicate 16 noRow;
-    }
+use Rattle.decode.proofs.Admitted.{noBounds}
 
 -- ---- lists by index
 
@@ -94,29 +48,6 @@ listed-map : {A : Type 0} (f : ℕ → ℕ) (g : A → ℕ) (xs : List A) (d : A
 listed-map f g xs d same =
     ext-getD (g d) _ _ (length-listed f (length xs) ∙ sym (length-map xs g))
     (λ i h. let below : i < length xs = omega (arith, length-listed f (length xs)) in listed-at f (length xs) (g d) i below ∙ same i below ∙ sym (getD-map g xs i d))
-
--- ---- each unit of a path is admitted
-
-abbrev pub noBounds : Bounds
-noBounds = record { first = 0; last = 0 }
-
-module _ (phrase : Phrase) (stage : Stage) (strictness : Strictness) (columns : List ℕ) where
-  pub each-ok : {us : List Bounds} {j : ℕ} → InOrder (problemOf phrase stage strictness columns) us j
-      → (i : ℕ) → i < length us → UnitOk phrase stage strictness (getD us i noBounds)
-  each-ok no-units i h = absurd (omega arith)
-  each-ok (later-end o l) i h = each-ok o i h
-  each-ok (one-more {us = us} {i = a} {j = b} o less below ok) i h = go (ltb i (length us)) (ltb→lt i (length us)) (nltb→le i (length us)) (λ before. each-ok o i before)
-    where
-      unit : Bounds
-      unit = record { first = a; last = b }
-
-      go : (earlier : Bool) → (T earlier → i < length us) → (T (not earlier) → length us ≤ i)
-          → (i < length us → UnitOk phrase stage strictness (getD us i noBounds)) → UnitOk phrase stage strictness (getD (us ++ (unit ∷ [])) i noBounds)
-      go true inside outside known = subst (UnitOk phrase stage strictness) (sym (List·getD-append us (unit ∷ []) noBounds i (inside tt))) (known (inside tt))
-      go false inside outside known =
-          let e : i ≡ length us = omega (arith, outside tt, length-append us (unit ∷ [])) in
-          subst (UnitOk phrase stage strictness) (sym (ap (λ (n : ℕ). getD (us ++ (unit ∷ [])) n noBounds) e ∙ getD-append-seam us unit [] noBounds))
-          (record { forward = less; inside = below; admitted = ok })
 
 -- ---- units in arrays, one by one
 
@@ -150,30 +81,13 @@ module _ (place : Bounds → PlacedUnit) (unit : Bounds → Placed) where
 abbrev noSpan : Span
 noSpan = record { start = 0; end = 0 }
 
-module _ (held : Bounds → List Anchor) where
-  zip-start : (bs : List Bounds) (spans : List Span) → length spans ≡ length bs → (i : ℕ) → i < length bs
-      → getD (zipWith reportedUnit (map held bs) spans) i unitless .start ≡ getD spans i noSpan .start
-  unfolding zipWith
-  zip-start [] spans e i h = absurd (omega arith)
-  zip-start (b ∷ bs) [] e i h = absurd (omega arith)
-  zip-start (b ∷ bs) (x ∷ xs) e zero h = refl
-  zip-start (b ∷ bs) (x ∷ xs) e (suc i) h = zip-start bs xs (omega arith) i (omega arith)
-
-  zip-end : (bs : List Bounds) (spans : List Span) → length spans ≡ length bs → (i : ℕ) → i < length bs
-      → getD (zipWith reportedUnit (map held bs) spans) i unitless .end ≡ getD spans i noSpan .end
-  unfolding zipWith
-  zip-end [] spans e i h = absurd (omega arith)
-  zip-end (b ∷ bs) [] e i h = absurd (omega arith)
-  zip-end (b ∷ bs) (x ∷ xs) e zero h = refl
-  zip-end (b ∷ bs) (x ∷ xs) e (suc i) h = zip-end bs xs (omega arith) i (omega arith)
-
-  zip-row : (bs : List Bounds) (spans : List Span) → length spans ≡ length bs → (i : ℕ) → i < length bs
-      → getD (zipWith reportedUnit (map held bs) spans) i unitless .row ≡ rowOr noRow (held (getD bs i noBounds))
-  unfolding zipWith
-  zip-row [] spans e i h = absurd (omega arith)
-  zip-row (b ∷ bs) [] e i h = absurd (omega arith)
-  zip-row (b ∷ bs) (x ∷ xs) e zero h = refl
-  zip-row (b ∷ bs) (x ∷ xs) e (suc i) h = zip-row bs xs (omega arith) i (omega arith)
+zip-at : (held : Bounds → List Anchor) (bs : List Bounds) (spans : List Span) → length spans ≡ length bs → (i : ℕ) → i < length bs
+    → getD (zipWith reportedUnit (map held bs) spans) i unitless ≡ reportedUnit (held (getD bs i noBounds)) (getD spans i noSpan)
+unfolding zipWith
+zip-at held [] spans e i h = absurd (omega arith)
+zip-at held (b ∷ bs) [] e i h = absurd (omega arith)
+zip-at held (b ∷ bs) (x ∷ xs) e zero h = refl
+zip-at held (b ∷ bs) (x ∷ xs) e (suc i) h = zip-at held bs xs (omega arith) i (omega arith)
 
 -- ---- the units of a path through a stage
 
@@ -205,32 +119,38 @@ module _ {phrase : Phrase} {stage : Stage} {strictness : Strictness} {side : Sid
   abbrev unit : ℕ → Bounds
   unit i = getD bs i noBounds
 
+  number-is : (f : Bounds → ℕ) → f noBounds ≡ 0 → {numbers : List ℕ} → numbers ≡ Traced.padded 16 (map f bs) → (i : ℕ) → i < length bs → getD numbers i 0 ≡ f (unit i)
+  number-is f none e i h =
+      ap (λ (l : List ℕ). getD l i 0) e
+      ∙ List·getD-append (map f bs) _ 0 i (omega (arith, length-map bs f))
+      ∙ ap (getD (map f bs) i) (sym none) ∙ getD-map f bs i noBounds
+
   first-is : (i : ℕ) → i < length bs → getD (units .first) i 0 ≡ unit i .first
-  first-is i h =
-      ap (λ (l : List ℕ). getD l i 0) (f .are .firsts)
-      ∙ List·getD-append (firstsOf bs) _ 0 i (omega (arith, length-map bs (λ (b : Bounds). b .first)))
-      ∙ getD-map (λ (b : Bounds). b .first) bs i noBounds
+  first-is = number-is (λ b. b .first) refl (f .are .firsts)
 
   last-is : (i : ℕ) → i < length bs → getD (units .last) i 0 ≡ unit i .last
-  last-is i h =
-      ap (λ (l : List ℕ). getD l i 0) (f .are .lasts)
-      ∙ List·getD-append (lastsOf bs) _ 0 i (omega (arith, length-map bs (λ (b : Bounds). b .last)))
-      ∙ getD-map (λ (b : Bounds). b .last) bs i noBounds
+  last-is = number-is (λ b. b .last) refl (f .are .lasts)
 
   in-tables : (i : ℕ) → i < length bs → unit i .last < t .size
   in-tables i h = omega (arith, f .ok i h .inside, tabled .sized)
 
+  -- an array of the tables that has an entry for each boundary
+  array-long : (array : StageTables → List ℕ) (entry : ℕ → ℕ)
+      → array (tablesOf (phrase .mask) (phrase .nuclei .anchors) (stage .anchors) (stage .firstRow) (stage .boundaries) (durationsOf stage) (phrase .costs))
+      ≡ tableOf entry (length (stage .boundaries)) 64 0 → length (array t) ≡ 64
+  array-long array entry is = ap (λ (x : StageTables). length (array x)) (f .sided .tables .exact) ∙ ap length is ∙ length-table entry _ 64 0 (f .fewBoundaries)
+
   bounds-long : length (t .bounds) ≡ 64
   unfolding tablesOf
-  bounds-long = ap (λ (x : StageTables). length (x .bounds)) (f .sided .tables .exact) ∙ length-table _ _ 64 0 (f .fewBoundaries)
+  bounds-long = array-long (λ x. x .bounds) _ refl
 
   ahead-long : length (t .first) ≡ 64
   unfolding tablesOf
-  ahead-long = ap (λ (x : StageTables). length (x .first)) (f .sided .tables .exact) ∙ length-table _ _ 64 0 (f .fewBoundaries)
+  ahead-long = array-long (λ x. x .first) _ refl
 
   rows-long : length (t .row) ≡ 64
   unfolding tablesOf
-  rows-long = ap (λ (x : StageTables). length (x .row)) (f .sided .tables .exact) ∙ length-table _ _ 64 0 (f .fewBoundaries)
+  rows-long = array-long (λ x. x .row) _ refl
 
   units-long : (numbers : List ℕ) → length numbers ≡ length bs → length (numbers ++ replicate (16 - length numbers) 0) ≡ 16
   units-long numbers e = length-append numbers _ ∙ omega (arith, length-replicate {A = ℕ} (16 - length numbers) 0, f .few)
@@ -285,27 +205,34 @@ module _ {phrase : Phrase} {stage : Stage} {strictness : Strictness} {side : Sid
   spans-long : length spans ≡ length bs
   spans-long = length-reported (map (placed phrase stage) bs) ∙ length-map bs (placed phrase stage)
 
+  -- an array of one figure of each span
+  module _ (figure : Span → ℕ) (none : figure noSpan ≡ 0) {numbers : List ℕ} (e : numbers ≡ padded (map figure (reported (placedList side lo hi units (length bs)))) 16 0) where
+    figures : numbers ≡ padded (map figure spans) 16 0
+    figures = e ∙ ap (λ (us : List Placed). padded (map figure (reported us)) 16 0) placed-is
+
+    figures-count : length (map figure spans) ≡ length bs
+    figures-count = length-map spans figure ∙ spans-long
+
+    figure-at : (i : ℕ) → i < length bs → getD numbers i 0 ≡ figure (getD spans i noSpan)
+    figure-at i h =
+        ap (λ (l : List ℕ). getD l i 0) figures ∙ padded-in (map figure spans) 16 0 0 i (omega (arith, figures-count))
+        ∙ ap (getD (map figure spans) i) (sym none) ∙ getD-map figure spans i noSpan
+
+    figures-long : length numbers ≡ 16
+    figures-long = ap length figures ∙ length-padded (map figure spans) 16 0 (omega (arith, figures-count, f .few))
+
   pub reports : {r : Reported} → ReportedAll side lo hi units (length bs) r → Holds (reportedIn phrase stage bs) r
   unfolding reportedIn
   reports {r} all =
       let long = length-reportedIn phrase stage bs in
-      let starts : r .starts ≡ padded (startsOf spans) 16 0 = all .starts ∙ ap (λ (us : List Placed). padded (startsOf (reported us)) 16 0) placed-is in
-      let ends : r .ends ≡ padded (endsOf spans) 16 0 = all .ends ∙ ap (λ (us : List Placed). padded (endsOf (reported us)) 16 0) placed-is in
-      let startsAre = length-map spans (λ (x : Span). x .start) in
-      let endsAre = length-map spans (λ (x : Span). x .end) in
       record {
         few = omega (arith, long, f .few);
-        starts = λ i h.
-            ap (λ (l : List ℕ). getD l i 0) starts ∙ padded-in (startsOf spans) 16 0 0 i (omega (arith, long, startsAre, spans-long))
-            ∙ getD-map (λ (x : Span). x .start) spans i noSpan ∙ sym (zip-start (heldBy phrase stage) bs spans spans-long i (omega (arith, long)));
-        ends = λ i h.
-            ap (λ (l : List ℕ). getD l i 0) ends ∙ padded-in (endsOf spans) 16 0 0 i (omega (arith, long, endsAre, spans-long))
-            ∙ getD-map (λ (x : Span). x .end) spans i noSpan ∙ sym (zip-end (heldBy phrase stage) bs spans spans-long i (omega (arith, long)));
-        rows = λ i h.
+        each = λ i h.
             let below : i < length bs = omega (arith, long) in
-            ap (λ (l : List ℕ). getD l i 0) (all .rows) ∙ table-at _ (length bs) 16 0 0 i below
-            ∙ ap (λ (p : PlacedUnit). p .row) (place-is i below) ∙ sym (zip-row (heldBy phrase stage) bs spans spans-long i below);
-        startsLong = ap length starts ∙ length-padded (startsOf spans) 16 0 (omega (arith, startsAre, spans-long, f .few));
-        endsLong = ap length ends ∙ length-padded (endsOf spans) 16 0 (omega (arith, endsAre, spans-long, f .few));
+            let row = ap (λ (l : List ℕ). getD l i 0) (all .rows) ∙ table-at _ (length bs) 16 0 0 i below ∙ ap (λ (p : PlacedUnit). p .row) (place-is i below) in
+            (λ x. record { start = figure-at (λ s. s .start) refl (all .starts) i below x; end = figure-at (λ s. s .end) refl (all .ends) i below x; row = row x })
+            ∙ sym (zip-at (heldBy phrase stage) bs spans spans-long i below);
+        startsLong = figures-long (λ s. s .start) refl (all .starts);
+        endsLong = figures-long (λ s. s .end) refl (all .ends);
         rowsLong = ap length (all .rows) ∙ length-table _ (length bs) 16 0 (f .few);
       }

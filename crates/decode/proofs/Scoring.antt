@@ -1,11 +1,8 @@
 -- From what the search says of a candidate to its entry.
 use Prim.Native.Nat.{ℕ, _+_, _≤_, _<_}
-use mathlib.Core.Bool.{Bool, true, false, cond, _||_}
-use mathlib.Core.List.{List, [], _∷_}
+use mathlib.Core.List.{List}
 use mathlib.Core.Path.{_≡_, refl, sym, ap, subst, subst⁻¹, _∙_}
 use native.Mathlib.Omega.{arith}
-use borrow.Author.Tests.{eq-eqb}
-use lib.Dec.{T, eqb}
 use lib.ListN.{length, getD, length-replicate}
 use lib.Ieee.{Float}
 use Rattle.ieee.specs.Convert.{ClampedLog, clampedLog}
@@ -14,7 +11,7 @@ use Rattle.paths.specs.declared.passes.Strictness.{Strictness}
 use Rattle.paths.specs.declared.passes.Pass.{Pass}
 use Rattle.paths.specs.declared.passes.Pass.the-variants.{NucleiStrict, CountStrict, CountRelaxed, NucleiRelaxed}
 use Rattle.paths.specs.Path.{Path, count, Admitted}
-use Rattle.paths.specs.Passes.{passNumber, passProblem, nonEmpty, inOrder}
+use Rattle.paths.specs.Passes.{passProblem, nonEmpty, inOrder}
 use Rattle.paths.specs.Demand as D
 use Rattle.paths.specs.Demand.{Answer, answerNumber}
 use Rattle.paths.specs.Search.{chosen}
@@ -24,7 +21,6 @@ use Rattle.paths.proofs.PathUnits.{units-count, units-in-order}
 use Rattle.stages.specs.Tables.{beyond}
 use Rattle.rows.specs.declared.trace.Units.{Units}
 use Rattle.rows.specs.Traced.{UnitsAre}
-use Rattle.closed.specs.declared.search.Answer as Code
 use Rattle.closed.specs.declared.search.Answer.the-variants.{Found, None, Unvoiced}
 use Rattle.closed.specs.declared.search.Searched.{Searched}
 use Rattle.closed.specs.Answered.{Says, numberOf, passStage, passStrictness}
@@ -34,7 +30,6 @@ use Rattle.record.specs.Edition.{edition1}
 use Rattle.record.specs.Meaning.{phraseOf}
 use Rattle.record.specs.Accepted.{Laid, CandidateFit}
 use Rattle.record.specs.Reading.{stageOf, candidateOf}
-use Rattle.record.specs.declared.layout.Section.{Section}
 use Rattle.record.specs.declared.layout.Layout.{Layout}
 use Rattle.record.specs.declared.read.Which.{Which}
 use Rattle.record.specs.declared.read.Which.the-variants.{Nuclei, Count}
@@ -57,64 +52,10 @@ use Rattle.decode.specs.Scored.{sideFor, MissedEntry, ScoredAs}
 use Rattle.decode.proofs.Demands.{answered}
 use Rattle.decode.proofs.Units.{length-reportedIn}
 use Rattle.decode.proofs.Reporting as Reporting
-
--- ---- what the code's answer says of the answer
-
-record FoundPath (a : Answer) (r : Searched) (pass : Pass) (total : Float) : Type 0 where
-  path : Path
-  is : a ≡ D.found pass path total
-  units : UnitsAre (r .units) (unitsOf path)
-
-apart : {A : Type 0} → _≡_ {A = ℕ} 0 1 → A
-apart e = absurd (omega arith)
-
-says-found : (a : Answer) {r : Searched} {pass : Pass} {total : Float} → Says a r → r .answer ≡ Found pass total → FoundPath a r pass total
-says-found (D.found pass path total) {pass = pass′} {total = total′} says e =
-    let same : pass ≡ pass′ = cc in
-    let sums : total ≡ total′ = cc in
-    record { path = path; is = λ i. D.found (same i) path (sums i); units = says .1 }
-says-found D.none says e = apart (cc)
-says-found D.unvoiced says e = apart (cc)
-
-says-none : (a : Answer) (r : Searched) → Says a r → r .answer ≡ None → a ≡ D.none
-says-none (D.found pass path total) r says e = apart (cc)
-says-none D.none r says e = refl
-says-none D.unvoiced r says e = apart (cc)
-
-says-unvoiced : (a : Answer) (r : Searched) → Says a r → r .answer ≡ Unvoiced → a ≡ D.unvoiced
-says-unvoiced (D.found pass path total) r says e = apart (cc)
-says-unvoiced D.none r says e = apart (cc)
-says-unvoiced D.unvoiced r says e = refl
-
--- ---- a pass that is tried is in the order
-
-has : Pass → List Pass → Bool
-has pass [] = false
-has pass (other ∷ others) = eqb (passNumber pass) (passNumber other) || has pass others
-
-true-or : (a b : Bool) → T a → T (a || b)
-true-or true b t = tt
-true-or false b t = absurd t
-
-or-true : (a b : Bool) → T b → T (a || b)
-or-true true b t = tt
-or-true false b t = t
-
-first-there : {phrase : Phrase} {columns : List ℕ} {pass : Pass} {passes : List Pass} → D.FirstOf phrase columns pass passes → T (has pass passes)
-unfolding has
-first-there {pass = pass} (D.here {later = later} admits) = true-or (eqb (passNumber pass) (passNumber pass)) (has pass later) (subst T (sym (eq-eqb (passNumber pass) (passNumber pass) refl)) tt)
-first-there {pass = pass} (D.after {earlier = earlier} {later = later} none rest) = or-true (eqb (passNumber pass) (passNumber earlier)) (has pass later) (first-there rest)
-
--- the added stage's passes are tried only where there is one
-counted : (b : Bool) → T (has CountStrict (NucleiStrict ∷ cond b (CountStrict ∷ CountRelaxed ∷ []) (NucleiRelaxed ∷ []))) → b ≡ true
-unfolding has
-counted true t = refl
-counted false t = absurd t
-
-relaxed : (b : Bool) → T (has CountRelaxed (NucleiStrict ∷ cond b (CountStrict ∷ CountRelaxed ∷ []) (NucleiRelaxed ∷ []))) → b ≡ true
-unfolding has
-relaxed true t = refl
-relaxed false t = absurd t
+use Rattle.decode.proofs.Said.{FoundPath, says-found, says-none, says-unvoiced}
+use Rattle.decode.proofs.Tried.{first-there, counted, relaxed}
+use Rattle.decode.proofs.Admitted.{each-ok}
+use Rattle.decode.proofs.HeldUnits.{held-units, missed-hold}
 
 same-stage : (phrase : Phrase) (pass : Pass) → passStage phrase pass ≡ Report.stageOf phrase pass
 same-stage phrase NucleiStrict = refl
@@ -155,7 +96,7 @@ module _ {bytes : List ℕ} {at : Layout} (h : Laid bytes at) where
             subst (λ (n : ℕ). n < noRow) (tabled .rows i inside)
             (readable phrase stage (side .tables) tabled (anchors-fit h which .ascending) (boundaries-fit h which .ascending) (few-boundaries h which) (boundaries-last which)
             (omega (arith, mask-fits h)) noRow (omega arith) (rows-below which) .rows i inside);
-        ok = Reporting.each-ok phrase stage strictness columns (units-in-order admitted);
+        ok = each-ok phrase stage strictness columns (units-in-order admitted);
       }
 
   module _ {plan : Plan} (planned : PlanOf phrase plan) {candidate : ℕ} (below : candidate < length (phrase .candidates)) where
@@ -227,7 +168,7 @@ module _ {bytes : List ℕ} {at : Layout} (h : Laid bytes at) where
           units-are =
               ap (λ (n : ℕ). unitsFrom (units .starts) (units .ends) (units .rows) n 0)
               (counted ∙ sym units-few ∙ sym (length-reportedIn phrase (passStage phrase pass) (unitsOf (it .path))))
-              ∙ Reporting.held-units holds ∙ ap (λ (x : Stage). reportedIn phrase x (unitsOf (it .path))) (same-stage phrase pass)
+              ∙ held-units holds ∙ ap (λ (x : Stage). reportedIn phrase x (unitsOf (it .path))) (same-stage phrase pass)
 
           pub scored-found : ScoredAs (entryOf phrase chosenOne) (record { head = record { id = id; llr = llr; pass = number; units = k }; units = units })
           unfolding entryBy entryFor
@@ -250,12 +191,12 @@ module _ {bytes : List ℕ} {at : Layout} (h : Laid bytes at) where
       unfolding entryBy entryFor
       scored-missed a is totals spans {k} {id} {number} {r} counted named numbered missed =
           let lo : plan .«lo_edge» ≡ lowEdge (phrase .speech) = planned .low in
-          let held : Holds (missedUnits phrase (length columns)) (missedAt (lowEdge (phrase .speech))) = Reporting.missed-hold (length columns) (lowEdge (phrase .speech)) few-units in
+          let held : Holds (missedUnits phrase (length columns)) (missedAt (lowEdge (phrase .speech))) = missed-hold (length columns) (lowEdge (phrase .speech)) few-units in
           let arrays : r .units ≡ missedAt (lowEdge (phrase .speech)) = missed .units ∙ ap missedAt lo in
           let holds : Holds (missedUnits phrase (length columns)) (r .units) = subst⁻¹ (Holds (missedUnits phrase (length columns))) arrays held in
           let k-is : r .head .units ≡ length columns = ap (λ (x : EntryHead). x .units) (missed .head) ∙ counted in
           let units-are : unitsFrom (r .units .starts) (r .units .ends) (r .units .rows) (r .head .units) 0 ≡ unitsFor phrase (length columns) a =
-          ap (λ (n : ℕ). unitsFrom (r .units .starts) (r .units .ends) (r .units .rows) n 0) (k-is ∙ sym (length-replicate (length columns) _)) ∙ Reporting.held-units holds ∙ sym spans in
+          ap (λ (n : ℕ). unitsFrom (r .units .starts) (r .units .ends) (r .units .rows) n 0) (k-is ∙ sym (length-replicate (length columns) _)) ∙ held-units holds ∙ sym spans in
           let llr-is : r .head .llr ≡ clampedLog (totalOf phrase (length columns) a) =
           ap (λ (x : EntryHead). x .llr) (missed .head) ∙ (λ i. clampedLog (missedBy (counted i) (planned .costs i .unvoiced))) ∙ ap clampedLog (sym totals) in
           subst⁻¹ (λ (b : Answer). ScoredAs (entryFor phrase chosenOne b) r) is

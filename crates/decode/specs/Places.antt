@@ -8,13 +8,11 @@ use lib.IntN.{pos}
 use lib.ListN.{length, getD, take, replicate}
 use lib.Ieee.{Float, binary32, mul, ofInt}
 use Rattle.evidence.specs.Spans.{spanOf}
-use Rattle.evidence.specs.declared.evidence.Span.{Span}
 use Rattle.entries.specs.Entry.{ReportedUnit, noRow}
-use Rattle.stages.specs.declared.tables.StageTables.{StageTables}
+use Rattle.entries.specs.EntryFrom.{unitAt}
 use Rattle.stages.specs.Listed.{padded, listed, tableOf}
 use Rattle.clip.specs.Clip.{Placed, reported, startsOf, endsOf}
 use Rattle.clip.specs.Units.{unitsOf}
-use Rattle.prepare.specs.declared.side.Listed.{Listed}
 use Rattle.prepare.specs.declared.side.Side.{Side}
 use Rattle.rows.specs.declared.trace.Units.{Units}
 use Rattle.decode.specs.declared.report.PlacedUnit.{PlacedUnit}
@@ -79,9 +77,7 @@ unitless = record { start = 0; end = 0; row = 0 }
 -- The first units of the arrays are these.
 pub record Holds (units : List ReportedUnit) (r : Reported) : Type 0 where
   pub few : length units ≤ 16
-  pub starts : (i : ℕ) → i < length units → getD (r .starts) i 0 ≡ getD units i unitless .start
-  pub ends : (i : ℕ) → i < length units → getD (r .ends) i 0 ≡ getD units i unitless .end
-  pub rows : (i : ℕ) → i < length units → getD (r .rows) i 0 ≡ getD units i unitless .row
+  pub each : (i : ℕ) → i < length units → unitAt (r .starts) (r .ends) (r .rows) i ≡ getD units i unitless
   pub startsLong : length (r .starts) ≡ 16
   pub endsLong : length (r .ends) ≡ 16
   pub rowsLong : length (r .rows) ≡ 16

@@ -10,10 +10,8 @@ use Rattle.paths.specs.declared.passes.Pass.{Pass}
 use Rattle.paths.specs.declared.passes.Pass.the-variants.{NucleiStrict, CountStrict, CountRelaxed, NucleiRelaxed}
 use Rattle.entries.specs.Entry.{Entry}
 use Rattle.entries.specs.EntryFrom.{entryFrom}
-use Rattle.entries.specs.declared.words.EntryHead.{EntryHead}
 use Rattle.prepare.specs.declared.side.Side.{Side}
 use Rattle.decode.specs.declared.plan.Plan.{Plan}
-use Rattle.decode.specs.declared.report.Reported.{Reported}
 use Rattle.decode.specs.declared.entry.Scored.{Scored}
 use Rattle.decode.specs.Places.{missedAt, missedBy}
 

@@ -22,7 +22,8 @@ pub fn decode(record: &[u8], best: &mut [f64], back: &mut [u32], out: &mut [u32]
             clear(best, back, WORK_CELLS);
             let plan = plan_of(record, at);
             put_candidates(best, back, record, at, plan, out);
-            Decoded::Entries(at.candidates.count as u32)
+            let count = at.candidates.count as u32;
+            Decoded::Entries(count)
         }
     }
 }

@@ -111,15 +111,15 @@ fn put_candidate(
     bytes: &[u8],
     at: Layout,
     plan: Plan,
-    candidate: usize,
+    number: usize,
     out: &mut [u32],
 )
     requires { ⌜ Laid (now bytes) at ⌝ }
-    requires { ⌜ candidate < length (phraseOf (now bytes) .candidates) ⌝ }
+    requires { ⌜ number < length (phraseOf (now bytes) .candidates) ⌝ }
     requires { ⌜ PlanOf (phraseOf (now bytes)) plan ⌝ }
     requires { ⌜ Unused (now best) (now back) (edition1 .«work_cells») ⌝ }
-    requires { ⌜ (candidate + 1) * edition1 .«entry_words» ≤ length (now out) ⌝ }
-    ensures { λ _. ⌜ Inserted (edition1 .units) candidate (entryOf (phraseOf (now (bytes .entry))) (candidateOf (phraseOf (now (bytes .entry))) candidate)) (now (out .entry)) (now (out .exit)) ⌝ }
+    requires { ⌜ (number + 1) * edition1 .«entry_words» ≤ length (now out) ⌝ }
+    ensures { λ _. ⌜ Inserted (edition1 .units) number (entryOf (phraseOf (now (bytes .entry))) (candidateOf (phraseOf (now (bytes .entry))) number)) (now (out .entry)) (now (out .exit)) ⌝ }
     ensures { λ _. ⌜ (now (best .exit) ≡ now (best .entry)) × (now (back .exit) ≡ now (back .entry)) ⌝ }
 {
     let nuclei = plan.nuclei;
@@ -128,7 +128,7 @@ fn put_candidate(
     let task = Task {
         at,
         costs,
-        candidate,
+        candidate: number,
     };
     let searched = search(
         best,
@@ -139,12 +139,12 @@ fn put_candidate(
         added.tables,
         plan.runs,
     );
-    let entry = score_candidate(bytes, at, plan, candidate, searched);
+    let entry = score_candidate(bytes, at, plan, number, searched);
     let units = entry.units;
     let starts = units.starts;
     let ends = units.ends;
     let rows = units.rows;
-    insert_entry(out, candidate, entry.head, &starts, &ends, &rows);
+    insert_entry(out, number, entry.head, &starts, &ends, &rows);
 }
 
 // Every candidate of the record, in its order.

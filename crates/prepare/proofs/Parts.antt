@@ -16,7 +16,6 @@ use Rattle.stages.proofs.Listed.{table-at}
 use Rattle.record.specs.Meaning.{phraseAt, phraseOf}
 use Rattle.record.specs.Accepted.{Laid, Frames}
 use Rattle.record.specs.Reading.{stageOf}
-use Rattle.record.specs.declared.layout.Section.{Section}
 use Rattle.record.specs.declared.layout.Layout.{Layout}
 use Rattle.record.specs.declared.read.Which.{Which}
 use Rattle.record.specs.declared.read.Which.the-variants.{Nuclei, Count}

@@ -10,7 +10,6 @@ use Rattle.stages.specs.Listed.{padded, tableOf}
 use Rattle.stages.specs.Filler.{noCost}
 use Rattle.stages.specs.Tables.{Tabled}
 use Rattle.stages.specs.Made.{tablesOf}
-use Rattle.record.specs.declared.layout.Section.{Section}
 use Rattle.record.specs.declared.layout.Layout.{Layout}
 use Rattle.record.specs.declared.read.Which.{Which}
 use Rattle.record.specs.declared.read.Which.the-variants.{Nuclei, Count}

@@ -25,7 +25,7 @@ clear-requires : tie.Need-clear-requires
 clear-requires c κs =
     let a = c .before .before .before .before .before .before .before .before .before .before .args in
     let ok = accepted-call (a .«record» .now) (length (a .best .now)) (length (a .back .now)) (length (a .out .now)) _ (sym (c .before .before .before .before .before .check-areas .ensures) ∙ c .before .before .before .checked2 .given .1) in
-    (ok .values, ok .marks)
+    (omega (arith, ok .values), omega (arith, ok .marks))
 
 plan-of-requires : tie.Need-plan-of-requires
 plan-of-requires c κs =
@@ -40,8 +40,8 @@ put-candidates-requires c κs =
     let cleared = c .before .before .before .before .before .before .before .before .clear .ensures in
     (ok .laid, (c .before .before .before .plan-of .ensures, (unused-cleared (a .best .now) (a .back .now) (edition1 .«work_cells») (cleared .0) (cleared .1) (ok .values) (ok .marks), ok .words)))
 
-cast-t24 : tie.Need-cast-t24
-cast-t24 c =
+cast-count : tie.Need-cast-count
+cast-count c =
     let a = c .before .before .before .before .before .before .before .before .before .before .before .before .before .before .before .before .before .before .before .before .before .before .before .before .before .before .before .args in
     let ok = accepted-call (a .«record» .now) (length (a .best .now)) (length (a .back .now)) (length (a .out .now)) _ (sym (c .before .before .before .before .before .before .before .before .before .before .before .before .before .before .before .before .before .before .before .before .before .before .check-areas .ensures) ∙ c .before .before .before .before .before .before .before .before .before .before .before .before .before .before .before .before .before .before .before .before .checked2 .given .1) in
     omega (arith, counts (ok .laid) .candidates)
@@ -80,7 +80,7 @@ decode-spec =
     clear-requires
     plan-of-requires
     put-candidates-requires
-    cast-t24
+    cast-count
     returns
     same-length
     same-length-2

@@ -14,7 +14,7 @@ use Rattle.decode.proofs.entry.put_candidate.Tie as tie
 search-requires : tie.Need-search-requires
 search-requires c κs =
     let pre = c .before .before .before .before .before .before .before .before .before .pre in
-    ((record { laid = pre .0; figures = pre .1 .1 .0 .costs; listed = pre .1 .0 }, pre .1 .1 .0 .runs, both-tabled (pre .1 .1 .0)), pre .1 .1 .1 .0)
+    ((record { laid = pre .0; figures = pre .1 .1 .0 .costs; listed = omega (arith, pre .1 .0) }, pre .1 .1 .0 .runs, both-tabled (pre .1 .1 .0)), pre .1 .1 .1 .0)
 
 score-candidate-requires : tie.Need-score-candidate-requires
 score-candidate-requires c κs = search needs
@@ -55,8 +55,8 @@ returns : tie.Need-returns
 returns c =
     let s = c .before .before .before .before .before .before .before .before .before .before .before .score-candidate .ensures in
     let a = c .before .before .before .before .before .before .before .before .before .before .before .before .before .before .before .before .before .before .before .before .before .before .before .before .before .before .args in
-    let entry = entryOf (phraseOf (a .bytes .now)) (candidateOf (phraseOf (a .bytes .now)) (a .candidate)) in
-    (subst (λ (e : Entry). Inserted 16 (a .candidate) e (a .out .now) (c .before .before .insert-entry .last .0)) (s .whole) (c .before .before .insert-entry .ensures (entry .total)), c .before .before .before .before .before .before .before .before .before .before .before .before .before .before .before .before .search .ensures .1)
+    let entry = entryOf (phraseOf (a .bytes .now)) (candidateOf (phraseOf (a .bytes .now)) (a .number)) in
+    (subst (λ (e : Entry). Inserted 16 (a .number) e (a .out .now) (c .before .before .insert-entry .last .0)) (s .whole) (c .before .before .insert-entry .ensures (entry .total)), c .before .before .before .before .before .before .before .before .before .before .before .before .before .before .before .before .search .ensures .1)
 
 pub put-candidate-spec : {M : Type 1} → statement M
 put-candidate-spec =

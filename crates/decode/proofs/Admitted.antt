@@ -1,0 +1,36 @@
+-- Each unit of an admitted path is admitted.
+use Prim.Native.Nat.{ℕ, _+_, _≤_, _<_}
+use mathlib.Core.Bool.{Bool, true, false, not}
+use mathlib.Core.List.{List, [], _∷_, _++_}
+use mathlib.Core.Path.{_≡_, sym, ap, subst, _∙_}
+use native.Mathlib.Omega.{arith}
+use lib.Dec.{T, ltb, ltb→lt, nltb→le}
+use lib.ListN.{length, getD, List·getD-append, length-append}
+use lib.Seq.{getD-append-seam}
+use Rattle.phrase.specs.Phrase.{Phrase, Stage}
+use Rattle.paths.specs.declared.passes.Strictness.{Strictness}
+use Rattle.paths.specs.StageProblem.{problemOf}
+use Rattle.paths.specs.Marks.{Bounds}
+use Rattle.paths.proofs.PathUnits.{InOrder, no-units, later-end, one-more}
+use Rattle.decode.proofs.Placing.{UnitOk}
+
+abbrev pub noBounds : Bounds
+noBounds = record { first = 0; last = 0 }
+
+module _ (phrase : Phrase) (stage : Stage) (strictness : Strictness) (columns : List ℕ) where
+  pub each-ok : {us : List Bounds} {j : ℕ} → InOrder (problemOf phrase stage strictness columns) us j
+      → (i : ℕ) → i < length us → UnitOk phrase stage strictness (getD us i noBounds)
+  each-ok no-units i h = absurd (omega arith)
+  each-ok (later-end o l) i h = each-ok o i h
+  each-ok (one-more {us = us} {i = a} {j = b} o less below ok) i h = go (ltb i (length us)) (ltb→lt i (length us)) (nltb→le i (length us)) (λ before. each-ok o i before)
+    where
+      unit : Bounds
+      unit = record { first = a; last = b }
+
+      go : (earlier : Bool) → (T earlier → i < length us) → (T (not earlier) → length us ≤ i)
+          → (i < length us → UnitOk phrase stage strictness (getD us i noBounds)) → UnitOk phrase stage strictness (getD (us ++ (unit ∷ [])) i noBounds)
+      go true inside outside known = subst (UnitOk phrase stage strictness) (sym (List·getD-append us (unit ∷ []) noBounds i (inside tt))) (known (inside tt))
+      go false inside outside known =
+          let e : i ≡ length us = omega (arith, outside tt, length-append us (unit ∷ [])) in
+          subst (UnitOk phrase stage strictness) (sym (ap (λ (n : ℕ). getD (us ++ (unit ∷ [])) n noBounds) e ∙ getD-append-seam us unit [] noBounds))
+          (record { forward = less; inside = below; admitted = ok })
