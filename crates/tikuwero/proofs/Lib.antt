@@ -1,0 +1,3 @@
+-- Laws that the exported functions' proofs share.
+mod Given
+mod Limits
