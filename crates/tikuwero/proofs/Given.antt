@@ -2,6 +2,7 @@
 use Prim.Native.Nat.{ℕ}
 use mathlib.Core.List.{List}
 use mathlib.Core.Path.{_≡_, sym, ap, _∙_}
+use lib.Ieee.{Float}
 use lib.IntN.{ℤ}
 use Rattle.evidence.specs.Outcome.{Outcome}
 use Rattle.evidence.specs.Spans.{Answers, outcome, written, wordsOf, spansOf}
@@ -10,8 +11,11 @@ use Rattle.evidence.specs.CreakyTail.{creakyTailOf}
 use Rattle.evidence.specs.declared.evidence.SpansAnswer.{SpansAnswer}
 use Rattle.evidence.specs.declared.evidence.TailAnswer.{TailAnswer}
 use Rattle.evidence.specs.declared.frames.Nearest.{Nearest}
+use Rattle.decode.specs.Contract as Contract
+use Rattle.decode.specs.Contract.{Decodes}
+use Rattle.decode.specs.declared.answer.Decoded.{Decoded}
 use Rattle.tikuwero.specs.Status.{status}
-use Rattle.tikuwero.specs.Calls.{SpansCall}
+use Rattle.tikuwero.specs.Calls.{SpansCall, DecodeCall}
 
 pub given : {A B : Type 0} (outcome : B → Outcome A) {answer variant : B} {o : Outcome A} → answer ≡ variant → outcome answer ≡ o → outcome variant ≡ o
 given outcome found told = sym (ap outcome found) ∙ told
@@ -32,3 +36,14 @@ pub tail-given :
     CreakyTail.outcome variant ≡ creakyTailOf start end next′ pitched vowel
 tail-given start end pitched vowel same found told =
     given CreakyTail.outcome found told ∙ ap (λ (frame : Nearest). creakyTailOf start end frame pitched vowel) same
+
+pub decode-call :
+    {bytes : List ℕ} {best best′ : List Float} {back back′ out out′ : List ℕ} {answer variant : Decoded} {returned : ℤ} →
+    answer ≡ variant → returned ≡ status (λ (entries : ℕ). entries) (Contract.outcome variant) →
+    Decodes bytes best back out answer best′ back′ out′ → DecodeCall bytes best back out returned best′ back′ out′
+decode-call {answer = answer} found number says =
+    record {
+      answer = answer;
+      decodes = says;
+      number = number ∙ ap (status (λ (entries : ℕ). entries)) (given Contract.outcome found (says .answered));
+    }

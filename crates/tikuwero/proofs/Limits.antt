@@ -1,15 +1,26 @@
--- The values that are returned are small.
+-- The values and the refusals that are returned are small numbers.
 use Prim.Native.Nat.{ℕ, zero, suc, _+_, _*_, _≤_, zero-le, suc-le-suc}
 use mathlib.Core.Bool.{Bool, true, false, _||_, cond}
 use mathlib.Core.List.{List}
 use mathlib.Core.Path.{_≡_, refl, sym, subst}
+use mathlib.Core.Option.{Option, none, some}
 use native.Mathlib.Nat.{le-trans}
+use native.Mathlib.Omega.{arith}
 use lib.Dec.{ltb}
 use lib.ListN.{length}
 use borrow.Author.Tests.{ltb-false}
 use Rattle.evidence.specs.Outcome.{Outcome, accepted, refused, anyAbove, lastFrame, mostFrames}
 use Rattle.evidence.specs.Frames.{lowestFrom, onward, ascendingFrom, ascending}
 use Rattle.evidence.specs.Spans.{tbuSpansOf}
+use Rattle.record.specs.Edition.{edition1}
+use Rattle.record.specs.Layout.{layoutOf}
+use Rattle.record.specs.Meaning.{phraseOf}
+use Rattle.record.specs.Refusals.{numberOf, refusalWith}
+use Rattle.record.specs.declared.refusal.Refusal.{Refusal}
+use Rattle.record.specs.declared.refusal.Refusal.the-variants.{Stub, Edition, Size, Reach, Track, Cost, Bare, Twice, Units, Column, Desk}
+use Rattle.record.proofs.Accepted.{counts}
+use Rattle.decode.specs.Contract.{outcomeOf}
+use Rattle.decode.proofs.Calls.{own-rules, candidates-counted}
 use Rattle.evidence.specs.declared.frames.Nearest.{Nearest}
 use Rattle.evidence.specs.declared.frames.Nearest.the-variants.{None, At}
 
@@ -45,3 +56,29 @@ spans-within nuclei bounds lo hi room {count} e =
     go false false true short few = zero-le
     go false false false true few = zero-le
     go false false false false few = le-trans (walked (length nuclei) 0 nuclei) (few refl)
+
+-- a count of entries is at most the most candidates of a record
+pub entries-within :
+    (bytes : List ℕ) (best back out : ℕ) {count : ℕ} →
+    accepted count ≡ outcomeOf (refusalWith bytes best back out) (length (phraseOf bytes .candidates)) → count ≤ edition1 .candidates
+entries-within bytes best back out told =
+    subst (λ (o : Outcome ℕ). valueOr 0 o ≤ edition1 .candidates) (sym told) (go (refusalWith bytes best back out) refl)
+  where
+    go : (r : Option Refusal) → refusalWith bytes best back out ≡ r → valueOr 0 (outcomeOf r (length (phraseOf bytes .candidates))) ≤ edition1 .candidates
+    go none e =
+        subst (λ (m : ℕ). m ≤ edition1 .candidates) (sym (candidates-counted bytes))
+        (counts {bytes = bytes} {at = layoutOf bytes} (record { accepted = own-rules bytes best back out e; layout = refl }) .candidates)
+    go (some q) e = zero-le
+
+pub number-within : (q : Refusal) → numberOf q ≤ 11
+number-within Stub = omega arith
+number-within Edition = omega arith
+number-within Size = omega arith
+number-within Reach = omega arith
+number-within Track = omega arith
+number-within Cost = omega arith
+number-within Bare = omega arith
+number-within Twice = omega arith
+number-within Units = omega arith
+number-within Column = omega arith
+number-within Desk = omega arith

@@ -5,6 +5,8 @@ mod words;
 
 use crate::words::flag;
 use crate::words::frame_of;
+use decode::answer::Decoded;
+use decode::decode::decode;
 use evidence::duration::RateAnswer;
 use evidence::duration::rate_s;
 use evidence::evidence::SpansAnswer;
@@ -17,7 +19,22 @@ ghost use mathlib.Core.Path.{_≡_};
 ghost use Rattle.evidence.specs.Joins.{joinsOf};
 ghost use Rattle.evidence.specs.CreakyTail.{creakyTailOf};
 ghost use Rattle.tikuwero.specs.Status.{status, flag, edgeFlags, frameOf};
-ghost use Rattle.tikuwero.specs.Calls.{RateCall, SpansCall};
+ghost use Rattle.tikuwero.specs.Calls.{DecodeCall, RateCall, SpansCall};
+
+#[no_mangle]
+pub extern "C" fn tikuwero_decode(
+    record: &[u8],
+    best: &mut [f64],
+    back: &mut [u32],
+    out: &mut [u32],
+) -> i32
+    ensures { λ r. ⌜ DecodeCall (now («record» .entry)) (now (best .entry)) (now (back .entry)) (now (out .entry)) r (now (best .exit)) (now (back .exit)) (now (out .exit)) ⌝ }
+{
+    match decode(record, best, back, out) {
+        Decoded::Entries(count) => count as i32,
+        Decoded::Refused(refusal) => -(refusal.number() as i32),
+    }
+}
 
 #[no_mangle]
 pub extern "C" fn tikuwero_rate_s(frames: &[u32], default_s: f64, rate: &mut f64) -> i32
