@@ -21,6 +21,7 @@ ghost use Rattle.evidence.specs.CreakyTail.{creakyTailOf};
 ghost use Rattle.tikuwero.specs.Status.{status, flag, edgeFlags, frameOf};
 ghost use Rattle.tikuwero.specs.Calls.{DecodeCall, RateCall, SpansCall};
 
+// The number of entries in `out`.
 #[no_mangle]
 pub extern "C" fn tikuwero_decode(
     record: &[u8],
@@ -36,6 +37,7 @@ pub extern "C" fn tikuwero_decode(
     }
 }
 
+// 0, with the rate in `rate`.
 #[no_mangle]
 pub extern "C" fn tikuwero_rate_s(frames: &[u32], default_s: f64, rate: &mut f64) -> i32
     ensures { λ r. ⌜ RateCall (now (frames .entry)) «default_s» (now (rate .entry)) r (now (rate .exit)) ⌝ }
@@ -51,6 +53,7 @@ pub extern "C" fn tikuwero_rate_s(frames: &[u32], default_s: f64, rate: &mut f64
     }
 }
 
+// The number of spans in `out`.
 #[no_mangle]
 pub extern "C" fn tikuwero_tbu_spans(
     nuclei: &[u32],
@@ -69,6 +72,7 @@ pub extern "C" fn tikuwero_tbu_spans(
     }
 }
 
+// 1 where the start is joined and 2 where the end is, added.
 #[no_mangle]
 pub extern "C" fn tikuwero_joins(voice: &[u8], pitched: &[u8], start: u32, end: u32) -> i32
     ensures { λ r. ⌜ r ≡ status edgeFlags (joinsOf (now (voice .entry)) (now (pitched .entry)) start end) ⌝ }
@@ -83,6 +87,7 @@ pub extern "C" fn tikuwero_joins(voice: &[u8], pitched: &[u8], start: u32, end: 
     }
 }
 
+// 1 for yes, 0 for no; `next` is a frame, or the word for none.
 #[no_mangle]
 pub extern "C" fn tikuwero_creaky_tail(
     start: u32,
