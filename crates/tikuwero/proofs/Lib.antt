@@ -1,0 +1,4 @@
+-- Laws that the exported functions' proofs share.
+mod Numbers
+mod Given
+mod Limits

@@ -1,0 +1,34 @@
+-- One number for an entry's outcome, and the words that stand for a flag and for a missing frame.
+use Prim.Native.Nat.{ℕ, _+_, _*_}
+use mathlib.Core.Bool.{Bool, cond}
+use lib.Dec.{eqb}
+use lib.IntN.{ℤ, pos, negℤ}
+use Rattle.evidence.specs.Outcome.{Outcome, accepted, refused}
+use Rattle.evidence.specs.Joins.{Edges}
+use Rattle.evidence.specs.declared.frames.Nearest.{Nearest}
+use Rattle.evidence.specs.declared.frames.Nearest.the-variants.{None, At}
+
+-- "An accepted call returns M." "A refusal returns its number only." Here it is minus that number, so that no value is taken for a refusal.
+abbrev pub status : {A : Type 0} → (A → ℕ) → Outcome A → ℤ
+status value (accepted a) = pos (value a)
+status value (refused number) = negℤ (pos number)
+
+-- what an accepted call leaves behind a pointer, and what a refused one does: "all lent memory keeps its bytes"
+abbrev pub stored : {A : Type 0} → A → Outcome A → A
+stored before (accepted a) = a
+stored before (refused number) = before
+
+-- no is 0, yes is 1
+abbrev pub flag : Bool → ℕ
+flag yes? = cond yes? 1 0
+
+-- 1 where the start is joined and 2 where the end is, added
+abbrev pub edgeFlags : Edges → ℕ
+edgeFlags edges = flag (edges .start) + 2 * flag (edges .end)
+
+-- the word that says that there is no next nucleus; every other word is its frame
+abbrev pub noFrame : ℕ
+noFrame = 4294967295
+
+abbrev pub frameOf : ℕ → Nearest
+frameOf word = cond (eqb word noFrame) None (At word)

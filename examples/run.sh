@@ -1,0 +1,15 @@
+#!/bin/sh
+# Proves and builds the archive, links the C examples with it, runs them and compares what they print.
+set -eu
+cd "$(dirname "$0")/.."
+rt staticlib tikuwero
+built=target/examples
+mkdir -p "$built"
+for name in listing calls; do
+    "${CC:-gcc}" -std=c11 -O2 -Wall -Wextra -Werror -Iinclude "examples/$name.c" \
+        target/staticlib/libtikuwero.a -o "$built/$name"
+done
+"$built/listing" <examples/sample.record | cmp - examples/sample.listing
+"$built/listing" </dev/null | cmp - examples/stub.listing
+"$built/calls" | cmp - examples/calls.out
+echo "examples: what they print is as expected"

@@ -1,0 +1,146 @@
+/* Tikuwero: the syllable decoder of a pocket trainer, and four calls on marks, spans and speaking
+ * rate.
+ *
+ * What each call returns, and every byte that it leaves in the caller's memory, is proved for
+ * every input (crates/tikuwero/specs). The proofs assume of the caller what no function can test:
+ *
+ *   - no pointer is null, also where its length is 0, and each is aligned for its type;
+ *   - behind a pointer with a length there are that many elements, not bytes; they can be read,
+ *     and written where the pointer is not to const; their size in bytes is at most PTRDIFF_MAX;
+ *   - memory that a call writes overlaps nothing else that is lent to the same call, and nobody
+ *     else uses what is lent until the call returns.
+ *
+ * Every other input is answered. A value is 0 or more. A refusal is minus its number
+ * (TIKUWERO_STUB and those after it); then all lent memory keeps its bytes. The lowest number that
+ * applies is given, save that tikuwero_decode tests 8, 9 and 10 candidate by candidate.
+ *
+ * No call allocates or keeps anything: there is no heap and no static variable, so that calls on
+ * different memory may run at the same time. The archive needs memcpy and memset of the C library
+ * and nothing else. tikuwero_decode takes some 35 KB of stack on x86-64 (measured, not proved).
+ *
+ * A frame is 10 ms. A mask has a byte for each frame, 1 where the frame has the mark and else 0.
+ */
+#ifndef TIKUWERO_H
+#define TIKUWERO_H
+
+#include <stddef.h>
+#include <stdint.h>
+
+#ifdef __cplusplus
+extern "C" {
+#endif
+
+/* The refusals. A record gives TIKUWERO_SIZE also where it has no columns, or added boundaries but
+ * no anchors, and TIKUWERO_TRACK where a list is not strictly increasing or speech edges are bad. */
+enum {
+    TIKUWERO_STUB = 1,    /* the record has fewer than 64 or more than 65,536 bytes */
+    TIKUWERO_EDITION = 2, /* the record's edition is not 1 */
+    TIKUWERO_SIZE = 3,    /* a count or a length is over its limit */
+    TIKUWERO_REACH = 4,   /* a section of the record is not wholly before the trailer */
+    TIKUWERO_TRACK = 5,   /* a mask byte is above 1, or a frame above 4,095 */
+    TIKUWERO_COST = 6,    /* a float is not finite or is outside its range */
+    TIKUWERO_BARE = 7,    /* no candidates */
+    TIKUWERO_TWICE = 8,   /* a candidate has the id of an earlier one */
+    TIKUWERO_UNITS = 9,   /* a candidate has no units, or more than 16 */
+    TIKUWERO_COLUMN = 10, /* a used column number is not below the number of columns */
+    TIKUWERO_DESK = 11    /* a work area or an output is too short */
+};
+
+/* Sizes, in elements. */
+#define TIKUWERO_MAX_RECORD 65536  /* bytes of a record */
+#define TIKUWERO_MAX_CANDIDATES 16 /* candidates of a record */
+#define TIKUWERO_MAX_UNITS 16      /* units of a candidate */
+#define TIKUWERO_WORK_CELLS 1088   /* cells of each work area */
+#define TIKUWERO_ENTRY_WORDS 52    /* words of an entry */
+#define TIKUWERO_MAX_OUT (TIKUWERO_MAX_CANDIDATES * TIKUWERO_ENTRY_WORDS)
+#define TIKUWERO_MAX_FRAMES 64     /* frames of a list that is lent by itself */
+#define TIKUWERO_MAX_MASK 2048     /* bytes of a mask */
+
+/* The highest frame, and the word for none: no next nucleus, or a unit without an anchor. */
+#define TIKUWERO_LAST_FRAME 4095
+#define TIKUWERO_NONE UINT32_C(4294967295)
+
+/* Words of an entry. From TIKUWERO_ENTRY_UNITS on there are 16 triples start, end, row, of which
+ * those past the number of units are 0. A unit takes the frames from its start up to but not
+ * including its end. */
+enum {
+    TIKUWERO_ENTRY_ID = 0,
+    TIKUWERO_ENTRY_LLR = 1, /* the score: the bits of a float */
+    TIKUWERO_ENTRY_PASS = 2,
+    TIKUWERO_ENTRY_COUNT = 3, /* the number of units */
+    TIKUWERO_ENTRY_UNITS = 4
+};
+
+/* What TIKUWERO_ENTRY_PASS holds: the pass that found a path, or why there is none. */
+enum {
+    TIKUWERO_NUCLEI_STRICT = 0,
+    TIKUWERO_COUNT_STRICT = 1,
+    TIKUWERO_COUNT_RELAXED = 2,
+    TIKUWERO_NUCLEI_RELAXED = 3,
+    TIKUWERO_NO_PATH = 4, /* no path, but a nucleus in the mask */
+    TIKUWERO_UNVOICED = 5 /* no path and no nucleus in the mask */
+};
+
+/* Decodes a phrase record of edition 1.
+ *
+ * Returns M, the number of the record's candidates, 1 to 16. out then begins with M entries of
+ * TIKUWERO_ENTRY_WORDS words, best score first (+0 before -0), those of equal score in the
+ * record's order; its words past them are untouched. The first TIKUWERO_WORK_CELLS cells of best
+ * and of back are all-zero bits, whatever they were; cells past them are untouched.
+ *
+ * Refuses with 1 to 11. 11: best_len or back_len is below TIKUWERO_WORK_CELLS, or out_len is below
+ * M * TIKUWERO_ENTRY_WORDS; TIKUWERO_MAX_OUT words are enough for every record. */
+int32_t tikuwero_decode(const uint8_t *record, size_t record_len, double *best, size_t best_len,
+                        uint32_t *back, size_t back_len, uint32_t *out, size_t out_len);
+
+/* The speaking rate in seconds per syllable, from the frames of nuclei in any order, repeats kept.
+ *
+ * Returns 0, and *rate is the median gap between frames that follow one another, in seconds; it is
+ * default_s where there are fewer than two frames or that gap is 0.
+ *
+ * Refuses with 3: n above TIKUWERO_MAX_FRAMES; 5: a frame above TIKUWERO_LAST_FRAME; 6: default_s
+ * not finite or outside -1,000,000 to 1,000,000; also where the frames alone give a rate. */
+int32_t tikuwero_rate_s(const uint32_t *frames, size_t n, double default_s, double *rate);
+
+/* The span of each nucleus: from the boundary below it to the boundary above it, or to the edges
+ * where there is none; where the spans of neighbours overlap, each is cut midway between the two
+ * nuclei. Both lists may stand in any order, a nucleus that is listed twice counts once, and
+ * lo_edge may be above hi_edge.
+ *
+ * Returns the number of spans, 0 to TIKUWERO_MAX_FRAMES. out then begins with two words for each,
+ * its start and its end, by ascending nucleus; its words past them are untouched.
+ *
+ * Refuses with 3: n or b above TIKUWERO_MAX_FRAMES; 5: a frame or an edge above
+ * TIKUWERO_LAST_FRAME; 11: out_len below two words for each distinct nucleus. */
+int32_t tikuwero_tbu_spans(const uint32_t *nuclei, size_t n, const uint32_t *bounds, size_t b,
+                           uint32_t lo_edge, uint32_t hi_edge, uint32_t *out, size_t out_len);
+
+/* Which edges of the span from start to end the voice runs through, from one syllable into the
+ * next: an edge is joined where the three frames on either side of it are all marked in voice, and
+ * the three before it and the frame at it in pitched. The masks may differ in length, and start
+ * may be above end.
+ *
+ * Returns 1 where the start is joined and 2 where the end is, added: 0 to 3.
+ *
+ * Refuses with 3: v or p above TIKUWERO_MAX_MASK; 5: a mask byte above 1, or start or end above
+ * TIKUWERO_LAST_FRAME. */
+int32_t tikuwero_joins(const uint8_t *voice, size_t v, const uint8_t *pitched, size_t p,
+                       uint32_t start, uint32_t end);
+
+/* Whether the syllable from start to end dies away in creak: after its last pitched frame come
+ * five or more frames of unpitched vowel speech, which do not run on into the next nucleus. next
+ * is the next nucleus's frame or TIKUWERO_NONE. The masks may differ in length, and start may be
+ * above end.
+ *
+ * Returns 1 for yes and 0 for no.
+ *
+ * Refuses with 3: p or v above TIKUWERO_MAX_MASK; 5: a mask byte above 1, start or end above
+ * TIKUWERO_LAST_FRAME, or next above it and not TIKUWERO_NONE. */
+int32_t tikuwero_creaky_tail(uint32_t start, uint32_t end, uint32_t next, const uint8_t *pitched,
+                             size_t p, const uint8_t *vowel_speech, size_t v);
+
+#ifdef __cplusplus
+}
+#endif
+
+#endif
