@@ -9,7 +9,7 @@ for name in listing calls; do
     "${CC:-gcc}" -std=c11 -O2 -Wall -Wextra -Werror -Iinclude "examples/$name.c" \
         target/staticlib/libtikuwero.a -o "$built/$name"
 done
-"$built/listing" <examples/sample.record | cmp - examples/sample.listing
+"$built/listing" <crates/listing/stdin | cmp - crates/listing/stdout
 "$built/listing" </dev/null | cmp - examples/stub.listing
 "$built/calls" | cmp - examples/calls.out
 echo "examples: what they print is as expected"
