@@ -2,7 +2,8 @@
 //!
 //! `TONALKIT_SRC` names another folder than the default, as a checkout of djt358/tonalkit; it holds `crates/`.
 
-use std::{env, fs, path::PathBuf};
+use std::path::{Path, PathBuf};
+use std::{env, fs};
 
 fn main() {
     println!("cargo:rerun-if-env-changed=TONALKIT_SRC");
@@ -31,23 +32,58 @@ fn main() {
         );
     }
     // lib.rs is a crate's root and brings modules that are not wanted here, so the items wanted are taken from its text.
-    let lib = fs::read_to_string(file(decode.join("lib.rs"))).unwrap();
-    for start in [
-        "const LOG_CLAMP",
-        "pub(crate) fn clamp_log",
-        "pub(crate) fn count_u32",
-    ] {
-        let at = lib
-            .find(start)
-            .unwrap_or_else(|| panic!("no `{start}` in lib.rs"));
-        let end = if start.starts_with("const") {
+    modules += &items(
+        file(decode.join("lib.rs")),
+        &[
+            "const LOG_CLAMP",
+            "pub(crate) fn clamp_log",
+            "pub(crate) fn count_u32",
+        ],
+    );
+    let parts = items(
+        file(decode.join("evidence.rs")),
+        &[
+            "const MIN_TAIL_FRAMES",
+            "fn creaky_tail",
+            "fn joins",
+            "fn tbu_spans",
+        ],
+    );
+    let out = PathBuf::from(env::var("OUT_DIR").unwrap());
+    fs::write(out.join("original.rs"), modules).unwrap();
+    fs::write(out.join("parts.rs"), parts).unwrap();
+    link(&here);
+}
+
+/// The text of items of a file, each from its first words to its end.
+fn items(path: String, starts: &[&str]) -> String {
+    let text = fs::read_to_string(&path).unwrap();
+    let item = |start: &&str| {
+        let at = text
+            .find(&format!("\n{start}"))
+            .unwrap_or_else(|| panic!("no `{start}` in {path}"))
+            + 1;
+        let end = if start.contains("const") {
             ";\n"
         } else {
             "\n}\n"
         };
-        let len = lib[at..].find(end).unwrap() + end.len();
-        modules += &lib[at..at + len];
-    }
-    let out = PathBuf::from(env::var("OUT_DIR").unwrap());
-    fs::write(out.join("original.rs"), modules).unwrap();
+        let len = text[at..].find(end).unwrap() + end.len();
+        text[at..at + len].to_string()
+    };
+    starts.iter().map(item).collect()
+}
+
+/// Links our archive, which `rt staticlib tikuwero` writes; `TIKUWERO_LIB` names another folder than the default.
+fn link(here: &Path) {
+    println!("cargo:rerun-if-env-changed=TIKUWERO_LIB");
+    let folder = env::var("TIKUWERO_LIB")
+        .map(PathBuf::from)
+        .unwrap_or_else(|_| here.join("../target/staticlib"));
+    println!(
+        "cargo:rerun-if-changed={}",
+        folder.join("libtikuwero.a").display()
+    );
+    println!("cargo:rustc-link-search=native={}", folder.display());
+    println!("cargo:rustc-link-lib=static=tikuwero");
 }

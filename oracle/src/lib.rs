@@ -7,12 +7,16 @@ extern crate self as tonekit_segment;
 extern crate self as tonekit_shape;
 
 pub mod brute;
+pub mod damage;
 pub mod generate;
 pub mod listing;
 pub mod maker;
+pub mod ours;
+pub mod parts;
 pub mod phrase;
 pub mod random;
 pub mod reference;
+pub mod refusal;
 mod standins;
 
 pub use joins::{Joins, JOIN_TRIM_FRAMES};

@@ -1,0 +1,221 @@
+//! Our side, through the C interface: every lent buffer stands between red zones, so that a write outside would be seen.
+
+/// What the two work areas and the output have at least.
+pub const WORK_CELLS: usize = 1088;
+pub const ENTRY_WORDS: usize = 52;
+
+/// Cells on either side of a lent buffer, and beyond the part that a call may write.
+const ZONE: usize = 16;
+const MARK: u32 = 0xdead_beef;
+const MARK_64: u64 = 0x7ff8_dead_beef_0001;
+
+extern "C" {
+    fn tikuwero_decode(
+        record: *const u8,
+        record_len: usize,
+        best: *mut f64,
+        best_len: usize,
+        back: *mut u32,
+        back_len: usize,
+        out: *mut u32,
+        out_len: usize,
+    ) -> i32;
+    fn tikuwero_rate_s(frames: *const u32, n: usize, default_s: f64, rate: *mut f64) -> i32;
+    fn tikuwero_tbu_spans(
+        nuclei: *const u32,
+        n: usize,
+        bounds: *const u32,
+        b: usize,
+        lo_edge: u32,
+        hi_edge: u32,
+        out: *mut u32,
+        out_len: usize,
+    ) -> i32;
+    fn tikuwero_joins(
+        voice: *const u8,
+        v: usize,
+        pitched: *const u8,
+        p: usize,
+        start: u32,
+        end: u32,
+    ) -> i32;
+    fn tikuwero_creaky_tail(
+        start: u32,
+        end: u32,
+        next: u32,
+        pitched: *const u8,
+        p: usize,
+        vowel_speech: *const u8,
+        v: usize,
+    ) -> i32;
+}
+
+/// What a call of `tikuwero_decode` answered: the entries' words, or the number of the refusal.
+pub type Decoded = Result<Vec<u32>, i32>;
+
+/// Lent memory, made once and used for every call.
+pub struct Desk {
+    best: Vec<u64>,
+    back: Vec<u32>,
+    out: Vec<u32>,
+}
+
+impl Default for Desk {
+    fn default() -> Self {
+        Desk {
+            best: vec![MARK_64; WORK_CELLS + 3 * ZONE],
+            back: vec![MARK; WORK_CELLS + 3 * ZONE],
+            out: vec![MARK; 16 * ENTRY_WORDS + 3 * ZONE],
+        }
+    }
+}
+
+impl Desk {
+    /// Decodes with buffers of these lengths, each at most `ZONE` longer than the longest that is ever needed, and checks that
+    /// what document 01 says is untouched is untouched, and that the cells used are zero bits.
+    pub fn decode(
+        &mut self,
+        record: &[u8],
+        best_len: usize,
+        back_len: usize,
+        out_len: usize,
+    ) -> Result<Decoded, String> {
+        self.best.fill(MARK_64);
+        self.back.fill(MARK);
+        self.out.fill(MARK);
+        // SAFETY: the three buffers have room for ZONE cells before and behind the lengths lent, and do not overlap.
+        let answer = unsafe {
+            tikuwero_decode(
+                record.as_ptr(),
+                record.len(),
+                self.best.as_mut_ptr().add(ZONE).cast(),
+                best_len,
+                self.back.as_mut_ptr().add(ZONE),
+                back_len,
+                self.out.as_mut_ptr().add(ZONE),
+                out_len,
+            )
+        };
+        let (used, written) = if answer < 0 {
+            (0, 0)
+        } else {
+            (WORK_CELLS, answer as usize * ENTRY_WORDS)
+        };
+        let inside = |i: usize, n: usize| (ZONE..ZONE + n).contains(&i);
+        let cell = |i: usize| {
+            if inside(i, used) {
+                (0, 0)
+            } else {
+                (MARK_64, MARK)
+            }
+        };
+        if !(0..self.best.len()).all(|i| self.best[i] == cell(i).0) {
+            return Err("best is not as it should be".into());
+        }
+        if !(0..self.back.len()).all(|i| self.back[i] == cell(i).1) {
+            return Err("back is not as it should be".into());
+        }
+        if !(0..self.out.len()).all(|i| inside(i, written) || self.out[i] == MARK) {
+            return Err("out is written outside its entries".into());
+        }
+        Ok(if answer < 0 {
+            Err(-answer)
+        } else {
+            Ok(self.out[ZONE..ZONE + written].to_vec())
+        })
+    }
+}
+
+/// The rate, or the number of the refusal.
+pub fn rate_s(frames: &[u32], default_s: f64) -> Result<f64, i32> {
+    let mut rate = f64::from_bits(MARK_64);
+    // SAFETY: a slice and a place for the rate.
+    let answer = unsafe { tikuwero_rate_s(frames.as_ptr(), frames.len(), default_s, &mut rate) };
+    if answer < 0 {
+        assert_eq!(rate.to_bits(), MARK_64, "rate_s wrote on a refusal");
+        Err(-answer)
+    } else {
+        Ok(rate)
+    }
+}
+
+/// The words of the spans, or the number of the refusal.
+pub fn tbu_spans(
+    nuclei: &[u32],
+    bounds: &[u32],
+    lo: u32,
+    hi: u32,
+    room: usize,
+) -> Result<Vec<u32>, i32> {
+    let mut out = vec![MARK; room + ZONE];
+    // SAFETY: two slices and an output of `room` words.
+    let answer = unsafe {
+        tikuwero_tbu_spans(
+            nuclei.as_ptr(),
+            nuclei.len(),
+            bounds.as_ptr(),
+            bounds.len(),
+            lo,
+            hi,
+            out.as_mut_ptr(),
+            room,
+        )
+    };
+    let written = if answer < 0 { 0 } else { 2 * answer as usize };
+    assert!(
+        out[written..].iter().all(|&w| w == MARK),
+        "tbu_spans wrote past its words"
+    );
+    out.truncate(written);
+    if answer < 0 {
+        Err(-answer)
+    } else {
+        Ok(out)
+    }
+}
+
+pub fn joins(voice: &[u8], pitched: &[u8], start: u32, end: u32) -> Result<(bool, bool), i32> {
+    // SAFETY: two slices.
+    let answer = unsafe {
+        tikuwero_joins(
+            voice.as_ptr(),
+            voice.len(),
+            pitched.as_ptr(),
+            pitched.len(),
+            start,
+            end,
+        )
+    };
+    if answer < 0 {
+        Err(-answer)
+    } else {
+        Ok((answer & 1 != 0, answer & 2 != 0))
+    }
+}
+
+pub fn creaky_tail(
+    start: u32,
+    end: u32,
+    next: Option<u32>,
+    pitched: &[u8],
+    vowel_speech: &[u8],
+) -> Result<bool, i32> {
+    let next = next.unwrap_or(u32::MAX);
+    // SAFETY: two slices.
+    let answer = unsafe {
+        tikuwero_creaky_tail(
+            start,
+            end,
+            next,
+            pitched.as_ptr(),
+            pitched.len(),
+            vowel_speech.as_ptr(),
+            vowel_speech.len(),
+        )
+    };
+    if answer < 0 {
+        Err(-answer)
+    } else {
+        Ok(answer != 0)
+    }
+}
