@@ -2,13 +2,20 @@
 use Prim.Native.Nat.{ℕ, _+_}
 use mathlib.Core.Path.{_≡_}
 use mathlib.Core.List.{List}
-use lib.ListN.{length}
+use mathlib.Core.Bool.{cond}
+use lib.Dec.{ltb}
+use lib.ListN.{length, getD}
 use lib.Ieee.{Float}
 use Rattle.phrase.specs.Phrase.{Phrase, Stage}
 use Rattle.paths.specs.Units.{shortestUnit}
 use Rattle.stages.specs.Listed.{padded, tableOf}
 use Rattle.stages.specs.Filler.{noCost}
-use Rattle.stages.specs.Tables.{Tabled}
+use Rattle.paths.specs.Anchors.{kept}
+use Rattle.paths.specs.LookAhead.{firstAhead}
+use Rattle.evidence.specs.Spans.{spanOf}
+use Rattle.evidence.specs.declared.evidence.Span.{Span}
+use Rattle.stages.specs.Room.{most}
+use Rattle.stages.specs.Tables.{Tabled, beyond, tableAt, tablesIn}
 use Rattle.stages.specs.Made.{tablesOf}
 use Rattle.record.specs.declared.layout.Layout.{Layout}
 use Rattle.record.specs.declared.read.Which.{Which}
@@ -39,3 +46,20 @@ pub record TablesOf (phrase : Phrase) (stage : Stage) (t : StageTables) : Type 0
 pub record SideOf (phrase : Phrase) (stage : Stage) (side : Side) : Type 0 where
   pub tables : TablesOf phrase stage (side .tables)
   pub anchors : Lists (stage .anchors) (side .anchors)
+
+-- the span of an anchor ahead among all that the stage lists; where there is none, 0 and 0 stand for it
+unfoldable pub spanAhead : Stage → ℕ → ℕ → ℕ → Span
+spanAhead stage lo hi ahead = cond (ltb ahead beyond) (spanOf (stage .anchors) (stage .boundaries) lo hi ahead) (record { start = 0; end = 0 })
+
+-- the span of the first kept anchor at or after boundary j
+abbrev pub spanFrom : Phrase → Stage → ℕ → ℕ → ℕ → Span
+spanFrom phrase stage lo hi j = spanAhead stage lo hi (firstAhead beyond (kept phrase stage) (getD (stage .boundaries) j 0))
+
+-- What is lent of a stage to the search of every candidate, each entry fixed: its tables, and after them the two edges of the span of the
+-- anchor ahead of each boundary.
+pub record Prepared (phrase : Phrase) (stage : Stage) (lo hi : ℕ) (words : List ℕ) (figures : List Float) : Type 0 where
+  pub worded : length words ≡ 384
+  pub figured : length figures ≡ 267
+  pub tables : TablesOf phrase stage (tablesIn (length (stage .boundaries)) words figures)
+  pub starts : tableAt 4 words ≡ tableOf (λ j. spanFrom phrase stage lo hi j .start) (length (stage .boundaries)) most 0
+  pub ends : tableAt 5 words ≡ tableOf (λ j. spanFrom phrase stage lo hi j .end) (length (stage .boundaries)) most 0

@@ -1,13 +1,15 @@
 -- What the tables of a stage hold: for each boundary the figures of the stage's problem, and what its look ahead needs.
-use Prim.Native.Nat.{ℕ, suc, _-_, _≤_, _<_}
+use Prim.Native.Nat.{ℕ, suc, _*_, _-_, _≤_, _<_}
+use mathlib.Core.List.{List}
 use mathlib.Core.Path.{_≡_}
-use lib.ListN.{length, getD}
-use lib.Ieee.{nan, neg}
+use lib.ListN.{length, getD, take, drop}
+use lib.Ieee.{Float, nan, neg}
 use Rattle.phrase.specs.Phrase.{Phrase, Stage}
 use Rattle.paths.specs.Anchors.{kept}
 use Rattle.paths.specs.Units.{shortestUnit, longestUnit}
 use Rattle.paths.specs.LookAhead.{firstAhead, secondAhead, rowAhead}
 use Rattle.paths.specs.StageProblem.{cost, boundary}
+use Rattle.stages.specs.Room.{most}
 use Rattle.stages.specs.declared.tables.StageTables.{StageTables}
 
 -- a frame that no boundary passes, where there is no anchor ahead
@@ -24,3 +26,21 @@ pub record Tabled (phrase : Phrase) (stage : Stage) (t : StageTables) : Type 0 w
   pub seconds : (i : ℕ) → i < t .size → getD (t .second) i 0 ≡ secondAhead beyond (kept phrase stage) (boundary stage i)
   pub rows : (i : ℕ) → i < t .size → getD (t .row) i 0 ≡ rowAhead 0 (kept phrase stage) (boundary stage i)
   pub durations : (d : ℕ) → shortestUnit ≤ d → d ≤ longestUnit → getD (t .duration) (d - shortestUnit) nan ≡ stage .duration d
+
+-- The tables of a stage stand one after the other in two lists, of words and of figures: table k of those with an entry for each boundary,
+abbrev pub tableAt : {A : Type 0} → ℕ → List A → List A
+tableAt k entries = take most (drop (k * most) entries)
+
+-- and, last among the figures, the durations.
+abbrev pub tablesIn : ℕ → List ℕ → List Float → StageTables
+tablesIn size words figures = record {
+  size = size;
+  bounds = tableAt 0 words;
+  start = tableAt 0 figures;
+  gap = tableAt 1 figures;
+  stop = tableAt 2 figures;
+  first = tableAt 1 words;
+  second = tableAt 2 words;
+  row = tableAt 3 words;
+  duration = take 75 (drop (3 * most) figures);
+}
