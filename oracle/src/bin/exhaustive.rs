@@ -102,16 +102,17 @@ impl Records {
 /// `per_frame`, `insertion_llr` and the unvoiced score.
 type Figures = (f64, f64, f32);
 
-/// Each figure 0, or a cost of 1.
+/// Each of the three nothing, or 1 that a path loses by it.
 fn all_figures() -> Vec<Figures> {
-    lists_of(&[0.0, -1.0], 3)
+    lists_of(&[0.0f64, -1.0], 3)
         .iter()
-        .map(|f| (-f[0], f[1], f[2] as f32))
+        .map(|f| (f[0].abs(), f[1], f[2] as f32))
         .collect()
 }
 
-/// Phrases of one stage: units of 5, 6, 7, 12, 74, 75, 80, 81 and 86 frames, nuclei on boundaries, between them and past the
-/// mask, with every candidate of one or two units over two columns.
+/// Phrases of one stage: boundaries 1 to 86 frames apart, on both sides of the limits of a unit, nuclei on boundaries,
+/// between them, past the mask and on a 0 byte of it, with and without speech, and every candidate of one or two units over
+/// two columns in each.
 fn one_stage(records: &mut Records, most_boundaries: usize, figures: &[Figures]) {
     let mut silent_at_6 = vec![true; 87];
     silent_at_6[6] = false;
@@ -146,7 +147,7 @@ fn one_stage(records: &mut Records, most_boundaries: usize, figures: &[Figures])
     }
 }
 
-/// Phrases of two stages, with durations of their own, and candidates of one and of two units.
+/// Phrases of two stages, each with durations of its own, and with a candidate of one unit and one of two.
 fn two_stages(records: &mut Records, most_boundaries: usize, figures: &[Figures]) {
     let mut silent_at_3 = vec![true; 13];
     silent_at_3[3] = false;
@@ -204,6 +205,7 @@ fn changed_samples(records: &mut Records, values: &[u8]) {
                 records.decode(&changed, WORK_CELLS, WORK_CELLS, out);
             }
             changed[at] = record[at];
+            // in memory of their own, so that valgrind sees a read past the end
             for cut in [&record[at..], &record[..at]] {
                 records.decode(&cut.to_vec(), WORK_CELLS, WORK_CELLS, out);
             }
@@ -229,6 +231,61 @@ fn report(kind: &str, tally: &Tally) -> usize {
     tally.differ
 }
 
+/// How far to go: all, or what a run under valgrind has time for.
+#[derive(Clone, Copy)]
+struct Size {
+    small: bool,
+}
+
+impl Size {
+    fn of(self, all: usize, few: usize) -> usize {
+        if self.small {
+            few
+        } else {
+            all
+        }
+    }
+
+    fn marks(self) -> usize {
+        let longest = self.of(8, 6);
+        let (masks, edges) = (lists(&[0, 1], longest), frames_below(longest + 2));
+        let unfit = lists(&[0, 1, 2], 2);
+        let (mut joined, mut tails) = (Tally::default(), Tally::default());
+        for (masks, frames) in [(&masks, &edges[..]), (&unfit, &BORDERS[..])] {
+            joins(&mut joined, masks, frames);
+            creaky_tail(&mut tails, masks, frames);
+        }
+        report("joins", &joined) + report("creaky_tail", &tails)
+    }
+
+    fn rates_and_spans(self) -> usize {
+        let (mut rates, mut spans) = (Tally::default(), Tally::default());
+        rate_s(&mut rates, &lists(&[0, 1, 2, 5, 4095, 4096], self.of(7, 4)));
+        let longest = self.of(3, 2);
+        let nuclei = lists(&frames_below(7), longest);
+        let bounds = lists(&frames_below(8), longest);
+        tbu_spans(&mut spans, &nuclei, &bounds, &frames_below(self.of(9, 4)));
+        let borders = lists(&BORDERS, 2);
+        tbu_spans(&mut spans, &borders, &borders, &BORDERS);
+        report("rate_s", &rates) + report("tbu_spans", &spans)
+    }
+
+    fn records(self) -> usize {
+        let figures = all_figures();
+        let figures = &figures[..self.of(figures.len(), 1)];
+        let values: Vec<u8> = (0..=u8::MAX).step_by(self.of(1, 85)).collect();
+        let [mut one, mut two, mut changed] = [(); 3].map(|()| Records::default());
+        one_stage(&mut one, self.of(4, 2), figures);
+        two_stages(&mut two, self.of(3, 2), figures);
+        changed_samples(&mut changed, &values);
+        one.report("one stage") + two.report("two stages") + changed.report("changed samples")
+    }
+}
+
+fn frames_below(end: usize) -> Vec<u32> {
+    (0..end as u32).collect()
+}
+
 fn main() {
     let args: Vec<String> = std::env::args().skip(1).collect();
     let small = match args.iter().map(String::as_str).collect::<Vec<_>>()[..] {
@@ -239,45 +296,6 @@ fn main() {
             exit(2);
         }
     };
-    let size = |all: usize, few: usize| if small { few } else { all };
-    let frames = |below: usize| -> Vec<u32> { (0..below as u32).collect() };
-    let mut differ = 0;
-
-    let longest = size(8, 6);
-    let (masks, edges) = (lists(&[0, 1], longest), frames(longest + 2));
-    let unfit = lists(&[0, 1, 2], 2);
-    let mut tally = Tally::default();
-    joins(&mut tally, &masks, &edges);
-    joins(&mut tally, &unfit, &BORDERS);
-    differ += report("joins", &tally);
-    let mut tally = Tally::default();
-    creaky_tail(&mut tally, &masks, &edges);
-    creaky_tail(&mut tally, &unfit, &BORDERS);
-    differ += report("creaky_tail", &tally);
-
-    let mut tally = Tally::default();
-    rate_s(&mut tally, &lists(&[0, 1, 2, 5, 4095, 4096], size(7, 4)));
-    differ += report("rate_s", &tally);
-
-    let longest = size(3, 2);
-    let (nuclei, bounds) = (lists(&frames(7), longest), lists(&frames(8), longest));
-    let borders = lists(&BORDERS, 2);
-    let mut tally = Tally::default();
-    tbu_spans(&mut tally, &nuclei, &bounds, &frames(size(9, 4)));
-    tbu_spans(&mut tally, &borders, &borders, &BORDERS);
-    differ += report("tbu_spans", &tally);
-
-    let figures = all_figures();
-    let figures = &figures[..size(figures.len(), 1)];
-    let mut records = Records::default();
-    one_stage(&mut records, size(4, 2), figures);
-    differ += records.report("one stage");
-    let mut records = Records::default();
-    two_stages(&mut records, size(3, 2), figures);
-    differ += records.report("two stages");
-    let mut records = Records::default();
-    let values: Vec<u8> = (0..=u8::MAX).collect();
-    changed_samples(&mut records, if small { &[0, 1, 255] } else { &values });
-    differ += records.report("changed samples");
-    conclude(differ);
+    let size = Size { small };
+    conclude(size.marks() + size.rates_and_spans() + size.records());
 }
