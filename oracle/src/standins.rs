@@ -1,10 +1,10 @@
 //! Small stand-ins for the crates that the original's files use and that are not here: just what those files name.
 //! The lent tables stand in for `Scorer::llr` and `log_prior`.
 //!
-//! The original is timed over them (`bench/`), so they are as cheap as its signatures let them be, and cheaper than what
-//! they stand in for: `llr` is one read of a flat table, which the original finds in a map, and `log_prior` is told a
-//! duration in seconds, so that a multiplication, an addition and a conversion remain before its one read, where the
-//! original has a division and a logarithm. Speech frames are copied, where the original works them out.
+//! The original is timed over them (`bench/`), so they are cheaper than what they stand in for: `llr` is one checked read
+//! of a flat table, which the original finds in a map, and `log_prior` is told a duration in seconds, so that a
+//! multiplication, an addition and a conversion remain before its one checked read, where the original has a division and a
+//! logarithm. Speech frames are copied, where the original works them out.
 
 use std::cell::Cell;
 
