@@ -3,9 +3,10 @@
 
 use oracle::maker::encode;
 use oracle::ours::{decode, ENTRY_WORDS, WORK_CELLS};
+use oracle::parts::original_spans;
 use oracle::phrase::Phrase;
 use oracle::reference::{self, Given, Inputs};
-use oracle::CandidateScore;
+use oracle::{CandidateScore, TbuSpan};
 
 pub struct Ours {
     record: Vec<u8>,
@@ -30,19 +31,47 @@ impl Ours {
     }
 }
 
-pub struct Original(Inputs);
+/// A stage's frames and boundaries, and the edges of speech.
+struct Stage {
+    frames: Vec<u32>,
+    bounds: Vec<u32>,
+    edges: (u32, u32),
+}
+
+impl Stage {
+    fn spans(&self) -> Vec<TbuSpan> {
+        original_spans(&self.frames, &self.bounds, self.edges.0, self.edges.1)
+    }
+}
+
+pub struct Original {
+    inputs: Inputs,
+    stages: Vec<Stage>,
+}
 
 impl Original {
     /// The duration tables are lent to the stand-ins here, so only the side made last may be run.
     pub fn of(p: &Phrase) -> Original {
         let inputs = Inputs::of(p, Given::AsListed);
         inputs.lend_durations();
-        Original(inputs)
+        let edges = p.speech.unwrap_or((0, 0));
+        let stage = |frames: &Vec<u32>, bounds: &Vec<u32>| Stage {
+            frames: frames.clone(),
+            bounds: bounds.clone(),
+            edges,
+        };
+        let mut stages = vec![stage(&p.nuclei, &p.boundaries)];
+        if !p.anchors.is_empty() {
+            stages.push(stage(&p.anchors, &p.added));
+        }
+        Original { inputs, stages }
     }
 
-    /// One decode, of what is already checked and with the rows' spans already worked out.
-    pub fn run(&self) -> Vec<CandidateScore> {
-        self.0.scores()
+    /// One decode, of what is already checked: the rows' spans are worked out, every candidate is decoded and ranked. The
+    /// marks that the original takes with the spans are left out, since ours takes them in entries of their own.
+    pub fn run(&self) -> (Vec<Vec<TbuSpan>>, Vec<CandidateScore>) {
+        let spans = self.stages.iter().map(Stage::spans).collect();
+        (spans, self.inputs.scores())
     }
 }
 
@@ -59,6 +88,7 @@ pub fn agreed_passes(name: &str, p: &Phrase) -> Vec<u32> {
     );
     let llrs: Vec<u32> = Original::of(p)
         .run()
+        .1
         .iter()
         .map(|s| s.llr.to_bits())
         .collect();

@@ -25,10 +25,13 @@ pub fn original_creaky_tail(
     )
 }
 
+pub fn original_spans(nuclei: &[u32], bounds: &[u32], lo: u32, hi: u32) -> Vec<TbuSpan> {
+    tbu_spans(nuclei, bounds, lo, hi)
+}
+
 /// The words of the spans.
 pub fn original_tbu_spans(nuclei: &[u32], bounds: &[u32], lo: u32, hi: u32) -> Vec<u32> {
-    let spans = tbu_spans(nuclei, bounds, lo, hi);
-    spans
+    original_spans(nuclei, bounds, lo, hi)
         .iter()
         .flat_map(|s| [s.start_frame, s.end_frame])
         .collect()
