@@ -23,21 +23,14 @@ pub fn laid_out(end: usize, t: Trailer) -> Layout
     requires { ⌜ Inside end t ⌝ }
     ensures { λ r. ⌜ r ≡ layoutFrom end t ⌝ }
 {
-    let mask = t.mask;
-    let nuclei = t.nuclei;
-    let boundaries = t.boundaries;
-    let anchors = t.anchors;
-    let added = t.added;
-    let scores = t.scores;
-    let candidates = t.candidates;
     Layout {
-        mask: placed(end, mask),
-        nuclei: placed(end, nuclei),
-        boundaries: placed(end, boundaries),
-        anchors: placed(end, anchors),
-        added: placed(end, added),
-        scores: placed(end, scores),
-        candidates: placed(end, candidates),
+        mask: placed(end, t.mask),
+        nuclei: placed(end, t.nuclei),
+        boundaries: placed(end, t.boundaries),
+        anchors: placed(end, t.anchors),
+        added: placed(end, t.added),
+        scores: placed(end, t.scores),
+        candidates: placed(end, t.candidates),
         costs: end - t.costs,
     }
 }

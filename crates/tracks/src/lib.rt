@@ -87,15 +87,10 @@ pub fn bad_track(bytes: &[u8], at: Layout) -> bool
     requires { ⌜ Within (length (now bytes)) at ⌝ }
     ensures { λ r. ⌜ r ≡ badTrack (now (bytes .entry)) at ⌝ }
 {
-    let mask = at.mask;
-    let nuclei = at.nuclei;
-    let boundaries = at.boundaries;
-    let anchors = at.anchors;
-    let added = at.added;
-    bad_mask(bytes, mask)
-        | bad_list(bytes, nuclei)
-        | bad_list(bytes, boundaries)
-        | bad_list(bytes, anchors)
-        | bad_list(bytes, added)
+    bad_mask(bytes, at.mask)
+        | bad_list(bytes, at.nuclei)
+        | bad_list(bytes, at.boundaries)
+        | bad_list(bytes, at.anchors)
+        | bad_list(bytes, at.added)
         | bad_speech(bytes, at.costs)
 }
