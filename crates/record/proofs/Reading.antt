@@ -1,35 +1,28 @@
--- Laws for the readers of an accepted record.
-use Prim.Native.Nat.{ℕ, zero, suc, _+_, _*_, _≤_, _<_}
+-- Where the sections of an accepted record stand, and what stands there: laws for its readers.
+use Prim.Native.Nat.{ℕ, _+_, _*_, _≤_, _<_}
 use mathlib.Core.Bool.{Bool, not}
-use mathlib.Core.List.{List, [], _∷_, _++_, append-assoc}
-use mathlib.Core.Path.{_≡_, refl, sym, ap, subst, subst⁻¹, _∙_}
-use native.Mathlib.Nat.{add-assoc, mul-comm}
-use native.Mathlib.Numerals.{add-one}
+use mathlib.Core.List.{List}
+use mathlib.Core.Path.{_≡_, sym, ap, subst, subst⁻¹, _∙_}
 use native.Mathlib.Omega.{arith}
-use lib.ListN.{length, getD, take, drop, set, length-drop, length-append}
-use lib.Seq.{ext-getD, getD-take, getD-drop, length-take-le, drop-cons, set-at}
+use lib.ListN.{length}
 use lib.Dec.{T}
-use lib.Ieee.{Float, nan, inf, fin, Format, binary32, binary64, ofBits, isNan, nanBits}
+use lib.Ieee.{Float, nan, inf, fin, Format, binary64, ofBits, isNan, nanBits}
 use lib.Ieee.Bits.{nanBits-is}
 use lib.Ieee.Scale.{finite}
 use Rattle.ieee.specs.Value as Fine
 use Rattle.phrase.specs.Phrase.{Phrase}
-use Rattle.record.specs.Bytes.{byteAt, u32At}
-use Rattle.record.specs.Below.{listed}
 use Rattle.record.specs.Edition.{edition1}
 use Rattle.record.specs.Bounds.{Within, CandidatesRead}
-use Rattle.record.specs.Conditions.{shortest, longest, f32At}
+use Rattle.record.specs.Conditions.{shortest, longest}
 use Rattle.record.specs.Layout.{trailerStart, trailerOf, layoutFrom, layoutOf}
 use Rattle.record.specs.Meaning.{framesAt, durationAt, candidateAt, phraseAt, phraseOf}
 use Rattle.record.specs.Accepted.{Laid}
-use Rattle.record.specs.Reading.{stageOf, anchorSection, boundarySection, tableStart, HasTable, candidateOf, over, Copied, rowStart, ScoreRow}
-use Rattle.record.specs.declared.layout.Section.{Section}
+use Rattle.record.specs.Reading.{stageOf, anchorSection, boundarySection, tableStart, HasTable, candidateOf}
 use Rattle.record.specs.declared.layout.Layout.{Layout}
 use Rattle.record.specs.declared.read.Which.{Which}
 use Rattle.record.specs.declared.read.Which.the-variants.{Nuclei, Count}
 use Rattle.record.proofs.Sizes.{reaching, within-layout, candidates-layout, moderate}
 use Rattle.record.proofs.Below.{length-listed, getD-listed}
-use Rattle.record.proofs.Entries.{entry-within}
 use Rattle.record.proofs.Accepted.{laid-passed, meaning, fit}
 
 -- ---- where the sections stand, and what they mean
@@ -100,7 +93,7 @@ module _ {bytes : List ℕ} {at : Layout} (h : Laid bytes at) where
 -- ---- figures
 
 finite-real : (x : Float) → T (finite x) → T (not (isNan x))
-unfolding finite isNan
+unfolding isNan
 finite-real nan t = t
 finite-real (inf s) t = tt
 finite-real (fin s m e) t = tt

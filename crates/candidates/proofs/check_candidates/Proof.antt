@@ -57,12 +57,14 @@ loop-less : tie.Need-loop-less Inv-loop μ-loop
 loop-less c = omega arith
 
 loop-again : tie.Need-loop-again Inv-loop μ-loop
-loop-again c =
-    let counted = c .before .before in
-    let once = counted .before .before in
-    let start = once .before .before .before .before .before in
-    let found = first-later _ _ _ (start .args .at) (start .pre .1) _ (once .before .before .loop-test .taken) (sym (once .before .repeated .ensures) ∙ once .if1 .left) (sym (counted .before .bad-units .ensures) ∙ counted .if2 .left) (sym (c .before .bad-column .ensures) ∙ c .if3 .left) in
-    (omega arith, found ∙ once .before .before .before .loop .inv .1)
+loop-again c = (
+  omega arith,
+  let counted = c .before .before in
+      let once = counted .before .before in
+      let start = once .before .before .before .before .before in
+      let found = first-later _ _ _ (start .args .at) (start .pre .1) _ (once .before .before .loop-test .taken) (sym (once .before .repeated .ensures) ∙ once .if1 .left) (sym (counted .before .bad-units .ensures) ∙ counted .if2 .left) (sym (c .before .bad-column .ensures) ∙ c .if3 .left) in
+      found ∙ once .before .before .before .loop .inv .1,
+)
 
 returns-4 : tie.Need-returns-4 Inv-loop μ-loop
 returns-4 c =

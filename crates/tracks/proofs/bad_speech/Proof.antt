@@ -1,5 +1,5 @@
 -- The edges are read from the costs block.
-use mathlib.Core.Path.{refl, ap₂, _∙_}
+use mathlib.Core.Path.{ap₂, _∙_}
 use native.Mathlib.Omega.{arith}
 use Rattle.record.specs.Conditions.{badEdges}
 use borrow.Author.Needs.{needs}

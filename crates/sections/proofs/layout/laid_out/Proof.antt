@@ -1,7 +1,6 @@
 -- A section starts its pointer before the trailer.
 use mathlib.Core.Path.{refl}
 use Rattle.record.specs.Layout.{layoutFrom}
-use borrow.Author.Needs.{needs}
 use Rattle.sections.proofs.layout.laid_out.Statement.{statement}
 use Rattle.sections.proofs.layout.laid_out.Tie as tie
 

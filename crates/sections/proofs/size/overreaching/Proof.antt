@@ -1,5 +1,5 @@
 -- Each section is tested with its own length; no length leaves a word, since the counts are within their limits.
-use Prim.Native.Nat.{ℕ, _+_, _*_, _≤_}
+use Prim.Native.Nat.{ℕ, _*_, _≤_}
 use mathlib.Core.Path.{refl}
 use native.Mathlib.Omega.{arith}
 use mir.Syntax.{w64}
