@@ -14,9 +14,9 @@ use crate::path::finish;
 use crate::scores::row_scores;
 use paths::passes::Strictness;
 use phrase::costs::Costs;
+use reading::read::column;
+use reading::read::units;
 use record::layout::Layout;
-use record::read::column;
-use record::read::units;
 use stages::tables::StageTables;
 
 // The rows of no units and of every count up to the candidate's k.

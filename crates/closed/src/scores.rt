@@ -6,9 +6,9 @@ ghost use Rattle.record.specs.Accepted.{Laid};
 ghost use Rattle.record.specs.Meaning.{phraseOf};
 ghost use Rattle.stages.specs.Room.{most};
 ghost use Rattle.closed.specs.Searched.{RowsBelow, Scored, scoreRows};
+use reading::read::score;
+use reading::read::score_row;
 use record::layout::Layout;
-use record::read::score;
-use record::read::score_row;
 
 // "The table at the anchor's row and the unit's column" (document 01), at the row listed for each of n boundaries.
 pub fn row_scores(bytes: &[u8], at: Layout, rows: &[u32], n: usize, column: usize) -> [f64; 64]

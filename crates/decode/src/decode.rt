@@ -2,8 +2,8 @@
 
 use crate::entry::put_candidates;
 use crate::plan::plan_of;
+use checks::check_areas;
 use decoding::answer::Decoded;
-use record::check::check_areas;
 use record::refusal::Checked;
 use rows::clear::clear;
 ghost use Rattle.decoding.specs.Contract.{Decodes};

@@ -33,11 +33,11 @@ use Rattle.record.specs.Layout.{trailerOf, layoutFrom, layoutOf}
 use Rattle.record.specs.Conditions.{shortDesk}
 use Rattle.record.specs.Refusals.{refusalWith}
 use Rattle.record.specs.Meaning.{phraseOf}
-use Rattle.record.specs.Sample.{sample}
+use Rattle.sample.specs.Sample.{sample}
 use Rattle.record.specs.declared.refusal.Refusal.{Refusal}
 use Rattle.record.specs.declared.refusal.Refusal.the-variants.{Desk}
 use Rattle.record.proofs.Answers.{desk-last}
-use Rattle.record.proofs.SamplePhrase as sample-record
+use Rattle.sample.proofs.SamplePhrase as sample-record
 use Rattle.entries.specs.Entry.{Entry, noRow}
 use Rattle.entries.specs.Words.{allWords}
 use Rattle.entries.specs.Ranking.{ranked, rankOnto}

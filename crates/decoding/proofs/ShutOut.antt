@@ -13,9 +13,9 @@ use Rattle.phrase.specs.Phrase.{Candidate}
 use Rattle.record.specs.Edition.{edition1}
 use Rattle.record.specs.Conditions.{shortDesk}
 use Rattle.record.specs.Meaning.{phraseOf}
-use Rattle.record.specs.Sample.{sample}
+use Rattle.sample.specs.Sample.{sample}
 use Rattle.record.specs.declared.refusal.Refusal.the-variants.{Track}
-use Rattle.record.proofs.SamplePhrase as sample-record
+use Rattle.sample.proofs.SamplePhrase as sample-record
 use Rattle.entries.specs.Entry.{Entry}
 use Rattle.decoding.specs.EntryOf.{entryOf}
 use Rattle.decoding.specs.Contract.{Meets, Decodes}

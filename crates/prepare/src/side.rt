@@ -1,7 +1,7 @@
 // One stage of an accepted record: the tables of its search, and its list of anchors.
 
+use reading::read;
 use record::layout::Layout;
-use record::read;
 use record::read::Which;
 use stages::tables::StageTables;
 use stages::tables::stage_tables;

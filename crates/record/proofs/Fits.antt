@@ -1,4 +1,4 @@
--- From "accepted" to every bound that decoding goes by.
+-- What a list of frames, a figure, a table and the speech edges have where their conditions do not hold.
 use Prim.Native.Nat.{ℕ, zero, suc, _+_, _-_, _*_, _≤_, _<_}
 use mathlib.Core.Bool.{Bool, true, false, not, _&&_, _||_, cond}
 use mathlib.Core.List.{List}

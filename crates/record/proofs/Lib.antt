@@ -1,15 +1,14 @@
--- Laws for those above: what a check answers (Answers), what every accepted record has (Accepted), what its readers hand over
--- (Reading), tests and lists by index (Tests, Below), and the sample phrase (SamplePhrase). The others are steps on the way.
+-- Laws for those above: what a check answers (Answers) and what its rules leave (Chain, Sizes, Entries), what every accepted record
+-- has (Accepted) and where its sections stand (Reading), tests and lists by index (Tests, Below), the limits of figures (Figures).
+-- The others are steps on the way.
 pub mod Tests
-mod Sizes
+pub mod Sizes
 pub mod Below
-mod Entries
-mod Rules
-mod Chain
+pub mod Entries
+pub mod Chain
 mod Passed
-mod Figures
+pub mod Figures
 mod Fits
 pub mod Accepted
 pub mod Answers
 pub mod Reading
-pub mod SamplePhrase

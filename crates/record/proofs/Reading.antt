@@ -1,35 +1,28 @@
--- Laws for the readers of an accepted record.
-use Prim.Native.Nat.{ℕ, zero, suc, _+_, _*_, _≤_, _<_}
+-- Where the sections of an accepted record stand, and what stands there: laws for its readers.
+use Prim.Native.Nat.{ℕ, _+_, _*_, _≤_, _<_}
 use mathlib.Core.Bool.{Bool, not}
-use mathlib.Core.List.{List, [], _∷_, _++_, append-assoc}
-use mathlib.Core.Path.{_≡_, refl, sym, ap, subst, subst⁻¹, _∙_}
-use native.Mathlib.Nat.{add-assoc, mul-comm}
-use native.Mathlib.Numerals.{add-one}
+use mathlib.Core.List.{List}
+use mathlib.Core.Path.{_≡_, sym, ap, subst, subst⁻¹, _∙_}
 use native.Mathlib.Omega.{arith}
-use lib.ListN.{length, getD, take, drop, set, length-drop, length-append}
-use lib.Seq.{ext-getD, getD-take, getD-drop, length-take-le, drop-cons, set-at}
+use lib.ListN.{length}
 use lib.Dec.{T}
-use lib.Ieee.{Float, nan, inf, fin, Format, binary32, binary64, ofBits, isNan, nanBits}
+use lib.Ieee.{Float, nan, inf, fin, Format, binary64, ofBits, isNan, nanBits}
 use lib.Ieee.Bits.{nanBits-is}
 use lib.Ieee.Scale.{finite}
 use Rattle.ieee.specs.Value as Fine
 use Rattle.phrase.specs.Phrase.{Phrase}
-use Rattle.record.specs.Bytes.{byteAt, u32At}
-use Rattle.record.specs.Below.{listed}
 use Rattle.record.specs.Edition.{edition1}
 use Rattle.record.specs.Bounds.{Within, CandidatesRead}
-use Rattle.record.specs.Conditions.{shortest, longest, f32At}
+use Rattle.record.specs.Conditions.{shortest, longest}
 use Rattle.record.specs.Layout.{trailerStart, trailerOf, layoutFrom, layoutOf}
 use Rattle.record.specs.Meaning.{framesAt, durationAt, candidateAt, phraseAt, phraseOf}
 use Rattle.record.specs.Accepted.{Laid}
-use Rattle.record.specs.Reading.{stageOf, anchorSection, boundarySection, tableStart, HasTable, candidateOf, over, Copied, rowStart, ScoreRow}
-use Rattle.record.specs.declared.layout.Section.{Section}
+use Rattle.record.specs.Reading.{stageOf, anchorSection, boundarySection, tableStart, HasTable, candidateOf}
 use Rattle.record.specs.declared.layout.Layout.{Layout}
 use Rattle.record.specs.declared.read.Which.{Which}
 use Rattle.record.specs.declared.read.Which.the-variants.{Nuclei, Count}
 use Rattle.record.proofs.Sizes.{reaching, within-layout, candidates-layout, moderate}
 use Rattle.record.proofs.Below.{length-listed, getD-listed}
-use Rattle.record.proofs.Entries.{entry-within}
 use Rattle.record.proofs.Accepted.{laid-passed, meaning, fit}
 
 -- ---- where the sections stand, and what they mean
@@ -100,7 +93,7 @@ module _ {bytes : List ℕ} {at : Layout} (h : Laid bytes at) where
 -- ---- figures
 
 finite-real : (x : Float) → T (finite x) → T (not (isNan x))
-unfolding finite isNan
+unfolding isNan
 finite-real nan t = t
 finite-real (inf s) t = tt
 finite-real (fin s m e) t = tt
@@ -111,86 +104,3 @@ real-bits f p real = subst⁻¹ (λ (b : Bool). T (not b)) (nanBits-is f p) real
 
 pub within-real : {f : Format} {x : Float} {n : ℕ} → Fine.Within f x n → T (not (isNan x))
 within-real {x = x} w = finite-real x (w .real .isFinite)
-
--- ---- a part of the bytes as a list
-
-pub part-listed : (bytes : List ℕ) (start count : ℕ) → start + count ≤ length bytes → take count (drop start bytes) ≡ listed (λ i. byteAt bytes (start + i)) count
-part-listed bytes start count fits =
-    let room : count ≤ length (drop start bytes) = subst⁻¹ (λ (n : ℕ). count ≤ n) (length-drop start bytes) (omega arith) in
-    let long = length-take-le count (drop start bytes) room in
-    ext-getD 0 _ _ (long ∙ sym (length-listed _ count))
-    (λ i below.
-    let inside : i < count = subst (λ (n : ℕ). i < n) long below in
-    getD-take count (drop start bytes) i 0 inside ∙ getD-drop start bytes i 0 ∙ sym (getD-listed (λ j. byteAt bytes (start + j)) count i 0 inside))
-
--- ---- a list written over the front of another, element by element
-
-abbrev pub written : (ℕ → ℕ) → ℕ → List ℕ → List ℕ
-written f i old = listed f i ++ drop i old
-
-listed-snoc : (f : ℕ → ℕ) (n : ℕ) → listed f (suc n) ≡ listed f n ++ (f n ∷ [])
-unfolding listed
-listed-snoc f zero = refl
-listed-snoc f (suc n) = ap (λ (xs : List ℕ). f zero ∷ xs) (listed-snoc (λ i. f (suc i)) n)
-
-pub written-none : (f : ℕ → ℕ) (old : List ℕ) → old ≡ written f 0 old
-unfolding listed
-written-none f old = refl
-
-pub written-more : (f : ℕ → ℕ) (i : ℕ) (old : List ℕ) → i < length old → set (written f i old) i (f i) ≡ written f (i + 1) old
-written-more f i old below =
-    ap (λ (xs : List ℕ). set (listed f i ++ xs) i (f i)) (drop-cons old i 0 below)
-    ∙ set-at (listed f i) (getD old i 0) (drop (suc i) old) (f i) i (length-listed f i)
-    ∙ sym (append-assoc (listed f i) (f i ∷ []) (drop (suc i) old))
-    ∙ ap (λ (xs : List ℕ). xs ++ drop (suc i) old) (sym (listed-snoc f i))
-    ∙ ap (λ (k : ℕ). written f k old) (sym (add-one i))
-
-pub length-written : (f : ℕ → ℕ) (i : ℕ) (old : List ℕ) → i ≤ length old → length (written f i old) ≡ length old
-length-written f i old fits =
-    length-append (listed f i) (drop i old) ∙ subst (λ (k : ℕ). k + length (drop i old) ≡ length old) (sym (length-listed f i)) (subst⁻¹ (λ (k : ℕ). i + k ≡ length old) (length-drop i old) (omega arith))
-
--- ---- a section that holds a list of frames
-
-module _ (bytes : List ℕ) {s there : Section} {xs : List ℕ} (is : s ≡ there) (holds : framesAt bytes there ≡ xs) where
-  pub section-long : length xs ≡ s .count
-  section-long = ap length (sym holds) ∙ length-listed _ (there .count) ∙ ap (λ (x : Section). x .count) (sym is)
-
-  pub section-within : {n : ℕ} → there .start + 4 * there .count ≤ n → s .start + 4 * s .count ≤ n
-  section-within {n} = subst⁻¹ (λ (x : Section). x .start + 4 * x .count ≤ n) is
-
-  pub section-copied : {old new : List ℕ} {count : ℕ} → (count ≡ s .count) × (new ≡ over (framesAt bytes s) old) → Copied xs old new count
-  section-copied {old} done =
-      record {
-        counted = done .0 ∙ sym section-long;
-        buffer = done .1 ∙ ap (λ (ys : List ℕ). over ys old) (ap (framesAt bytes) is ∙ holds);
-      }
-
--- ---- a row of scores
-
-u32-drop : (bytes : List ℕ) (k at : ℕ) → u32At (drop k bytes) at ≡ u32At bytes (k + at)
-unfolding u32At
-u32-drop bytes k at = simp (getD-drop, add-assoc)
-
--- the row starts within the record, with room for its columns
-pub row-within : {bytes : List ℕ} {at : Layout} → Laid bytes at → {row : ℕ} → row < length (phraseOf bytes .nuclei .anchors) + length (phraseOf bytes .added .anchors) → at .scores .start + 4 * (row * at .scores .count + at .scores .count) ≤ length bytes
-row-within {bytes} {at} h {row} below =
-    let rows : row < at .nuclei .count + at .anchors .count = omega (arith, section-long bytes {s = at .nuclei} refl (anchors-are h Nuclei), section-long bytes {s = at .anchors} refl (anchors-are h Count)) in
-    omega (arith, sections h .scores, entry-within (at .scores .count) rows, mul-comm (at .scores .count) row, mul-comm (at .scores .count) (at .nuclei .count + at .anchors .count))
-
-module _ {bytes : List ℕ} {at : Layout} (h : Laid bytes at) {row : ℕ} (below : row < length (phraseOf bytes .nuclei .anchors) + length (phraseOf bytes .added .anchors)) where
-  row-entry : (column : ℕ) → f32At (drop (rowStart at row) bytes) (4 * column) ≡ phraseOf bytes .score row column
-  unfolding phraseAt
-  row-entry column =
-      let place : rowStart at row + 4 * column ≡ at .scores .start + 4 * (row * at .scores .count + column) = omega arith in
-      ap (ofBits binary32) (u32-drop bytes (rowStart at row) (4 * column) ∙ ap (u32At bytes) place) ∙ ap (λ (p : Phrase). p .score row column) (meaning h)
-
-  pub score-row : ScoreRow (at .scores .count) (phraseOf bytes .score row) (drop (rowStart at row) bytes)
-  score-row =
-      record {
-        long = subst⁻¹ (λ (n : ℕ). 4 * at .scores .count ≤ n) (length-drop (rowStart at row) bytes) (omega (arith, row-within h below));
-        entry = λ column inside.
-            record {
-              is = row-entry column;
-              real = subst⁻¹ (λ (x : Float). T (not (isNan x))) (row-entry column) (within-real (fit h .scores row column below inside));
-            };
-      }

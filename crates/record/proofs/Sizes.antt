@@ -41,7 +41,7 @@ sized l t e =
     }
 
 reaches : (end bytes back : ℕ) → outside end bytes back ≡ false → Reaches end bytes back
-reaches end bytes back e = record { long = search (or-left, or-right, ltb-false); inside = search (or-left, or-right, ltb-false) }
+reaches end bytes back e = record { long = search (or-left, ltb-false); inside = search (or-left, or-right, ltb-false) }
 
 pub reaching : (l : Limits) (end : ℕ) (t : Trailer) → overreaching l end t ≡ false → Reaching l end t
 unfolding overreaching

@@ -9,4 +9,3 @@ pub mod Refusals
 pub mod Meaning
 pub mod Accepted
 pub mod Reading
-pub mod Sample

@@ -1,13 +1,9 @@
-// The phrase record: its refusals, and what an accepted one means.
+// The phrase record: what its bytes mean and when they are refused, as definitions under specs/ and laws under proofs/. The
+// code of this layer is the types that those share with the code above, and the reading of little-endian numbers.
 
 pub mod bytes;
-pub mod candidates;
-pub mod check;
-pub mod cost;
 pub mod layout;
 pub mod limits;
 pub mod read;
 pub mod refusal;
-pub mod size;
-pub mod track;
 pub mod trailer;

@@ -4,7 +4,7 @@ use crate::layout::Layout;
 ghost use mathlib.Core.Path.{_≡_};
 ghost use Rattle.record.specs.Refusals.{numberOf};
 
-// Document 01's words, in its order; `numberOf` of specs/Refusal.antt gives their numbers.
+// Document 01's words, in its order; `numberOf` of specs/Refusals.antt gives their numbers.
 pub enum Refusal {
     Stub,
     Edition,

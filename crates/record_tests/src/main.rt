@@ -6,6 +6,8 @@
 //
 // make_cases.py makes the input, and the file stdout by an implementation of document 01's table of its own.
 
+use checks::check;
+use checks::check_areas;
 use io::large_buffer;
 use io::print_decimal;
 use io::read_full;
@@ -13,8 +15,6 @@ use io::write_all;
 use libc::STDIN_FILENO;
 use libc::STDOUT_FILENO;
 use record::bytes::u32_at;
-use record::check::check;
-use record::check::check_areas;
 use record::refusal::Checked;
 ghost use Prim.Native.Nat.{_+_, _≤_, _<_};
 ghost use lib.ListN.{length};

@@ -1,0 +1,2 @@
+-- The rules of the candidates, one candidate after the other.
+mod Rules

@@ -1,0 +1,61 @@
+-- Laws of the ordered rules: what those of the candidates find from one candidate on.
+use Prim.Native.Nat.{ℕ, suc, _+_, _-_, _≤_, _<_}
+use mathlib.Core.Bool.{true, false, cond}
+use mathlib.Core.List.{List}
+use mathlib.Core.Option.{Option, none, some}
+use mathlib.Core.Path.{_≡_, refl, ap, _∙_}
+use native.Mathlib.Numerals.{add-one}
+use native.Mathlib.Omega.{arith}
+use Rattle.record.specs.Layout.{layoutOf}
+use Rattle.record.specs.Conditions.{repeated, badUnits, badColumn}
+use Rattle.record.specs.Refusals.{firstOf, candidateRules}
+use Rattle.record.specs.declared.limits.Limits.{Limits}
+use Rattle.record.specs.declared.layout.Layout.{Layout}
+use Rattle.record.specs.declared.refusal.Refusal.{Refusal}
+use Rattle.record.specs.declared.refusal.Refusal.the-variants.{Twice, Units, Column}
+use Rattle.record.proofs.Tests.{taken, passed}
+
+-- what the rules of the candidates from i up to n find
+abbrev pub rest : Limits → List ℕ → ℕ → ℕ → Option Refusal
+rest l bytes n i = firstOf (candidateRules l i (n - i)) bytes
+
+-- the three rules of candidate i, then those of the candidates after it
+abbrev one : Limits → List ℕ → ℕ → ℕ → Layout → Option Refusal
+one l bytes n i at =
+    cond (repeated l bytes at i) (some Twice) (cond (badUnits l bytes at i) (some Units) (cond (badColumn l bytes at i) (some Column) (rest l bytes n (i + 1))))
+
+module _ (l : Limits) (bytes : List ℕ) (n : ℕ) where
+  pub rest-all : rest l bytes n 0 ≡ firstOf (candidateRules l 0 n) bytes
+  rest-all =
+      let left : n - 0 ≡ n = omega arith in
+      ap (λ (k : ℕ). firstOf (candidateRules l 0 k) bytes) left
+
+  pub rest-done : (i : ℕ) → n ≤ i → rest l bytes n i ≡ none
+  unfolding firstOf candidateRules
+  rest-done i past =
+      let left : n - i ≡ 0 = omega arith in
+      ap (λ (k : ℕ). firstOf (candidateRules l i k) bytes) left
+
+  step : (i : ℕ) → i < n → one l bytes n i (layoutOf bytes) ≡ rest l bytes n i
+  unfolding firstOf candidateRules
+  step i below =
+      let left : suc (n - (i + 1)) ≡ n - i = omega arith in
+      rw (add-one i) refl ∙ ap (λ (k : ℕ). firstOf (candidateRules l i k) bytes) left
+
+  module _ (at : Layout) (is : at ≡ layoutOf bytes) (i : ℕ) (below : i < n) where
+    one-rest : one l bytes n i at ≡ rest l bytes n i
+    one-rest = ap (one l bytes n i) is ∙ step i below
+
+    pub first-twice : repeated l bytes at i ≡ true → some Twice ≡ rest l bytes n i
+    first-twice h = taken (repeated l bytes at i) _ _ h ∙ one-rest
+
+    pub first-units : repeated l bytes at i ≡ false → badUnits l bytes at i ≡ true → some Units ≡ rest l bytes n i
+    first-units f h = passed (repeated l bytes at i) _ _ f (taken (badUnits l bytes at i) _ _ h) ∙ one-rest
+
+    pub first-column : repeated l bytes at i ≡ false → badUnits l bytes at i ≡ false → badColumn l bytes at i ≡ true → some Column ≡ rest l bytes n i
+    first-column f g h =
+        passed (repeated l bytes at i) _ _ f (passed (badUnits l bytes at i) _ _ g (taken (badColumn l bytes at i) _ _ h)) ∙ one-rest
+
+    pub first-later : repeated l bytes at i ≡ false → badUnits l bytes at i ≡ false → badColumn l bytes at i ≡ false → rest l bytes n (i + 1) ≡ rest l bytes n i
+    first-later f g h =
+        passed (repeated l bytes at i) _ _ f (passed (badUnits l bytes at i) _ _ g (passed (badColumn l bytes at i) _ _ h refl)) ∙ one-rest

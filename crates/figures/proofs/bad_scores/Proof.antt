@@ -1,0 +1,54 @@
+-- The loop has found no score out of its range below `i`.
+use Prim.Native.Nat.{ℕ, _+_, _-_, _*_, _≤_}
+use mathlib.Core.Bool.{Bool, false, not}
+use mathlib.Core.List.{List}
+use mathlib.Core.Path.{_≡_, sym, ap, _∙_}
+use native.Mathlib.Omega.{arith}
+use Rattle.ieee.specs.Range.{within}
+use Rattle.record.specs.Below.{anyBelow}
+use Rattle.record.specs.Conditions.{million, f32At}
+use Rattle.record.proofs.Below.{any-none, any-more, any-found, any-end}
+use Rattle.figures.proofs.bad_scores.Statement.{statement}
+use Rattle.figures.proofs.bad_scores.Tie as tie
+
+abbrev Test : List ℕ → ℕ → ℕ → Bool
+Test bytes start i = not (within million (f32At bytes (start + 4 * i)))
+
+abbrev Inv-loop : tie.InvT-loop
+Inv-loop bytes start entries i₀ i = (i ≤ entries) × (anyBelow (Test bytes start) i ≡ false)
+
+abbrev μ-loop : tie.MeasureT-loop
+μ-loop bytes start entries i₀ i = entries - i
+
+loop-holds : tie.Need-loop-holds Inv-loop μ-loop
+loop-holds c = (omega arith, any-none _)
+
+mul-score-fits : tie.Need-mul-score-fits Inv-loop μ-loop
+mul-score-fits c = omega arith
+
+add-score-fits : tie.Need-add-score-fits Inv-loop μ-loop
+add-score-fits c = omega arith
+
+score-fits-requires : tie.Need-score-fits-requires Inv-loop μ-loop
+score-fits-requires c κs = omega arith
+
+returns : tie.Need-returns Inv-loop μ-loop
+returns c = sym (any-found _ _ _ (c .before .before .loop-test .taken) (ap not (sym (c .before .score-fits .ensures)) ∙ c .if1 .taken))
+
+add-i : tie.Need-add-i Inv-loop μ-loop
+add-i c = omega arith
+
+loop-less : tie.Need-loop-less Inv-loop μ-loop
+loop-less c = omega arith
+
+loop-again : tie.Need-loop-again Inv-loop μ-loop
+loop-again c =
+    (omega arith, any-more _ _ (c .before .before .before .loop .inv .1) (ap not (sym (c .before .score-fits .ensures)) ∙ c .if1 .left))
+
+returns-2 : tie.Need-returns-2 Inv-loop μ-loop
+returns-2 c = any-end _ _ _ (c .before .loop .inv .0) (c .loop-test .left) (c .before .loop .inv .1)
+
+pub bad-scores-spec : {M : Type 1} → statement M
+bad-scores-spec =
+    tie.close
+    (tie.spec Inv-loop μ-loop loop-holds mul-score-fits add-score-fits score-fits-requires returns add-i loop-less loop-again returns-2)

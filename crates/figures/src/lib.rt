@@ -1,0 +1,96 @@
+// Refusal 6: every float finite and within its range. The tests are on bits, since a NaN's bits are no float that may be read.
+
+use ieee::range::nonpositive64;
+use ieee::range::within32;
+use ieee::range::within64;
+use record::bytes::u32_at;
+use record::bytes::u64_at;
+use record::layout::Layout;
+ghost use mathlib.Core.Path.{_≡_};
+ghost use Prim.Native.Nat.{_+_, _*_, _≤_};
+ghost use lib.ListN.{length};
+ghost use Rattle.ieee.specs.Range.{within};
+ghost use Rattle.record.specs.Bounds.{Within};
+ghost use Rattle.record.specs.Conditions.{thousand, million, f32At, f64At, isDuration, badScores, badFigures, badTable, badCost};
+
+// the bits of 1,000,000 and of 1,000
+const MILLION_32: u32 = 0x4974_2400;
+
+const MILLION_64: u64 = 0x412e_8480_0000_0000;
+
+const THOUSAND_64: u64 = 0x408f_4000_0000_0000;
+
+fn score_fits(bytes: &[u8], at: usize) -> bool
+    requires { ⌜ at + 4 ≤ length (now bytes) ⌝ }
+    ensures { λ r. ⌜ r ≡ within million (f32At (now (bytes .entry)) at) ⌝ }
+{
+    within32(u32_at(bytes, at), MILLION_32)
+}
+
+fn cost_fits(bytes: &[u8], at: usize) -> bool
+    requires { ⌜ at + 8 ≤ length (now bytes) ⌝ }
+    ensures { λ r. ⌜ r ≡ within thousand (f64At (now (bytes .entry)) at) ⌝ }
+{
+    within64(u64_at(bytes, at), THOUSAND_64)
+}
+
+fn duration_fits(bytes: &[u8], at: usize) -> bool
+    requires { ⌜ at + 8 ≤ length (now bytes) ⌝ }
+    ensures { λ r. ⌜ r ≡ isDuration (f64At (now (bytes .entry)) at) ⌝ }
+{
+    nonpositive64(u64_at(bytes, at), MILLION_64)
+}
+
+fn bad_scores(bytes: &[u8], start: usize, entries: usize) -> bool
+    requires { ⌜ start + 4 * entries ≤ length (now bytes) ⌝ }
+    ensures { λ r. ⌜ r ≡ badScores (now (bytes .entry)) start entries ⌝ }
+{
+    let mut i = 0;
+    while i < entries {
+        if !score_fits(bytes, start + 4 * i) {
+            return true;
+        }
+        i += 1;
+    }
+    false
+}
+
+fn bad_figures(bytes: &[u8], costs: usize) -> bool
+    requires { ⌜ costs + 1228 ≤ length (now bytes) ⌝ }
+    ensures { λ r. ⌜ r ≡ badFigures (now (bytes .entry)) costs ⌝ }
+{
+    !cost_fits(bytes, costs) | !cost_fits(bytes, costs + 8) | !score_fits(bytes, costs + 16)
+}
+
+fn bad_table(bytes: &[u8], table: usize) -> bool
+    requires { ⌜ table + 600 ≤ length (now bytes) ⌝ }
+    ensures { λ r. ⌜ r ≡ badTable (now (bytes .entry)) table ⌝ }
+{
+    let mut i = 0;
+    while i < 75 {
+        if !duration_fits(bytes, table + 8 * i) {
+            return true;
+        }
+        i += 1;
+    }
+    false
+}
+
+// The second table is not read where there are no anchors.
+pub fn bad_cost(bytes: &[u8], at: Layout) -> bool
+    requires { ⌜ Within (length (now bytes)) at ⌝ }
+    ensures { λ r. ⌜ r ≡ badCost (now (bytes .entry)) at ⌝ }
+{
+    let costs = at.costs;
+    let entries = (at.nuclei.count + at.anchors.count) * at.scores.count;
+    if bad_scores(bytes, at.scores.start, entries)
+        | bad_figures(bytes, costs)
+        | bad_table(bytes, costs + 28)
+    {
+        return true;
+    }
+    if at.anchors.count == 0 {
+        return false;
+    }
+    bad_table(bytes, costs + 628)
+}

@@ -1,0 +1,4 @@
+-- Steps of the readers' proofs.
+mod Lists
+mod Sections
+mod Rows

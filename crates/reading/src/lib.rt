@@ -1,0 +1,3 @@
+// Readers of an accepted record.
+
+pub mod read;

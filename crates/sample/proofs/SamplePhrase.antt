@@ -1,0 +1,153 @@
+-- Document 01's sample phrase, by computation: the record is accepted and means the phrase described, and one byte changed has it
+-- refused by the number that the change calls for.
+use Prim.Native.Nat.{ℕ, _+_}
+use mathlib.Core.Bool.{true, false, not, _&&_}
+use mathlib.Core.List.{List, [], _∷_}
+use mathlib.Core.Option.{Option, none, some}
+use mathlib.Core.Path.{_≡_, refl}
+use lib.Dec.{eqb}
+use lib.ListN.{length, replicate, set, take}
+use lib.IntN.{pos, negsuc}
+use lib.Count.{trailingZeros}
+use lib.Ieee.{fin, le, lt, eq, neg, ofInt, round, size, span, climb, units, odd, ofBits, ofFields}
+use Rattle.phrase.specs.Phrase.{Phrase, spoken}
+use Rattle.record.specs.Bytes.{u32At, u64At}
+use Rattle.record.specs.Below.{anyBelow, listed}
+use Rattle.record.specs.Layout.{trailerOf, layoutFrom, layoutOf}
+use Rattle.record.specs.Conditions.{oversized, overreaching, badTrack, badCost, shortest, tableEntries}
+use Rattle.record.specs.Refusals.{firstOf, candidateRules, firstRules, ownRules, refusalOf}
+use Rattle.record.specs.Meaning.{phraseAt, phraseOf}
+use Rattle.sample.specs.Sample.{sample}
+use Rattle.record.specs.declared.refusal.Refusal.{Refusal}
+use Rattle.record.specs.declared.refusal.Refusal.the-variants.{Stub, Edition, Size, Reach, Track, Cost, Bare, Twice, Units, Column}
+
+pub long : length sample ≡ 1376
+unfolding sample
+long = refl
+
+-- what the theorems below compute with
+checks : List ℕ → Option Refusal
+unfolding refusalOf firstOf ownRules firstRules candidateRules layoutOf layoutFrom trailerOf sample u32At u64At anyBelow oversized overreaching badTrack badCost le lt eq neg ofInt round size span climb units odd ofBits ofFields trailingZeros
+checks bytes = refusalOf bytes
+
+means : List ℕ → Phrase
+unfolding phraseOf phraseAt layoutOf layoutFrom trailerOf sample u32At u64At listed ofBits ofFields odd trailingZeros anyBelow eq
+means bytes = phraseOf bytes
+
+-- no rule refuses it
+pub accepted : refusalOf sample ≡ none
+unfolding checks
+accepted = refl
+
+-- ---- what it means
+
+-- "Mask of 20 ones; nucleus 7; boundaries 4, 14; A = D = 0"
+pub mask : phraseOf sample .mask ≡ replicate 20 1
+unfolding means
+mask = refl
+
+pub nuclei : phraseOf sample .nuclei .anchors ≡ 7 ∷ []
+unfolding means
+nuclei = refl
+
+pub boundaries : phraseOf sample .nuclei .boundaries ≡ 4 ∷ 14 ∷ []
+unfolding means
+boundaries = refl
+
+pub anchors : phraseOf sample .added .anchors ≡ []
+unfolding means
+anchors = refl
+
+pub added-boundaries : phraseOf sample .added .boundaries ≡ []
+unfolding means
+added-boundaries = refl
+
+-- "C = 1, score 3"
+pub columns : layoutOf sample .scores .count ≡ 1
+unfolding means
+columns = refl
+
+pub score : phraseOf sample .score 0 0 ≡ fin false 3 (pos 0)
+unfolding means
+score = refl
+
+-- "per_frame 0.5; insertion_llr −2; unvoiced −4"
+pub costs : phraseOf sample .costs ≡ record { «per_frame» = fin false 1 (negsuc 0); «insertion_llr» = fin true 1 (pos 1); unvoiced = fin true 1 (pos 2) }
+unfolding means
+costs = refl
+
+-- "speech 4 to 14"
+pub speech : phraseOf sample .speech ≡ spoken 4 14
+unfolding means
+speech = refl
+
+-- "duration entry for 10 frames −0.25, others 0"
+pub duration-ten : phraseOf sample .nuclei .duration 10 ≡ fin true 1 (negsuc 1)
+unfolding means
+duration-ten = refl
+
+pub other-durations : anyBelow (λ i. not (eqb (shortest + i) 10) && not (eq (phraseOf sample .nuclei .duration (shortest + i)) (fin false 0 (pos 0)))) tableEntries ≡ false
+unfolding means
+other-durations = refl
+
+-- "Candidates 9 (two units), then 3 (one), all column 0"
+pub candidates : phraseOf sample .candidates ≡ record { id = 9; columns = 0 ∷ 0 ∷ [] } ∷ record { id = 3; columns = 0 ∷ [] } ∷ []
+unfolding means
+candidates = refl
+
+-- ---- what one byte changes
+
+-- its first 63 bytes
+pub cut : refusalOf (take 63 sample) ≡ some Stub
+unfolding checks
+cut = refl
+
+-- edition 2
+pub second-edition : refusalOf (set sample 1312 2) ≡ some Edition
+unfolding checks
+second-edition = refl
+
+-- C = 0
+pub no-column : refusalOf (set sample 1356 0) ≡ some Size
+unfolding checks
+no-column = refl
+
+-- a mask pointer of 1,313, one more than the bytes before the trailer
+pub before-the-record : refusalOf (set sample 1320 33) ≡ some Reach
+unfolding checks
+before-the-record = refl
+
+-- a mask byte of 2
+pub half-voiced : refusalOf (set sample 3 2) ≡ some Track
+unfolding checks
+half-voiced = refl
+
+-- boundaries 4, 4
+pub equal-boundaries : refusalOf (set sample 28 4) ≡ some Track
+unfolding checks
+equal-boundaries = refl
+
+-- a score of 2.55 × 10^38
+pub huge-score : refusalOf (set sample 35 127) ≡ some Cost
+unfolding checks
+huge-score = refl
+
+-- M = 0
+pub no-candidate : refusalOf (set sample 1364 0) ≡ some Bare
+unfolding checks
+no-candidate = refl
+
+-- ids 9 and 9
+pub same-id : refusalOf (set sample 60 9) ≡ some Twice
+unfolding checks
+same-id = refl
+
+-- 17 units
+pub seventeen-units : refusalOf (set sample 40 17) ≡ some Units
+unfolding checks
+seventeen-units = refl
+
+-- column 1 of one column
+pub second-column : refusalOf (set sample 44 1) ≡ some Column
+unfolding checks
+second-column = refl

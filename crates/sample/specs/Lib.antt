@@ -1,0 +1,2 @@
+-- Document 01's sample phrase.
+pub mod Sample

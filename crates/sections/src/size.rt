@@ -1,0 +1,61 @@
+// Refusals 1 to 4: the record's size and edition, its counts and its back pointers.
+
+use record::limits::Limits;
+use record::trailer::Trailer;
+ghost use mathlib.Core.Path.{_≡_};
+ghost use Rattle.record.specs.Edition.{Moderate};
+ghost use Rattle.record.specs.Bounds.{Sized};
+ghost use Rattle.record.specs.Conditions.{stub, otherEdition, oversized, outside, overreaching};
+
+pub fn stub(bytes: &[u8]) -> bool
+    ensures { λ r. ⌜ r ≡ stub (now (bytes .entry)) ⌝ }
+{
+    (bytes.len() < 64) | (bytes.len() > 65536)
+}
+
+pub fn other_edition(limits: Limits, t: Trailer) -> bool
+    ensures { λ r. ⌜ r ≡ otherEdition limits t ⌝ }
+{
+    t.edition != limits.edition
+}
+
+pub fn oversized(limits: Limits, t: Trailer) -> bool
+    ensures { λ r. ⌜ r ≡ oversized limits t ⌝ }
+{
+    (t.mask.count > limits.frames)
+        | (t.nuclei.count > limits.nuclei)
+        | (t.boundaries.count > limits.boundaries)
+        | (t.anchors.count > limits.anchors)
+        | (t.added.count > limits.boundaries)
+        | (t.scores.count > limits.columns)
+        | (t.candidates.count > limits.candidates)
+        | (t.scores.count == 0)
+        | ((t.anchors.count == 0) & (t.added.count > 0))
+}
+
+// A section of `long` bytes that `back` bytes before `end` does not hold, or that starts before the record.
+fn outside(end: usize, long: usize, back: usize) -> bool
+    ensures { λ r. ⌜ r ≡ outside end long back ⌝ }
+{
+    (back < long) | (back > end)
+}
+
+pub fn overreaching(limits: Limits, end: usize, t: Trailer) -> bool
+    requires { ⌜ Moderate limits ⌝ }
+    requires { ⌜ Sized limits t ⌝ }
+    ensures { λ r. ⌜ r ≡ overreaching limits end t ⌝ }
+{
+    let score_bytes = 4 * ((t.nuclei.count + t.anchors.count) * t.scores.count);
+    outside(end, t.mask.count, t.mask.back)
+        | outside(end, 4 * t.nuclei.count, t.nuclei.back)
+        | outside(end, 4 * t.boundaries.count, t.boundaries.back)
+        | outside(end, 4 * t.anchors.count, t.anchors.back)
+        | outside(end, 4 * t.added.count, t.added.back)
+        | outside(end, score_bytes, t.scores.back)
+        | outside(
+            end,
+            limits.candidate_bytes * t.candidates.count,
+            t.candidates.back,
+        )
+        | outside(end, 1228, t.costs)
+}

@@ -1,0 +1,96 @@
+// Refusal 5: the mask, the four frame lists and the speech edges.
+
+use record::bytes::byte_at;
+use record::bytes::u32_at;
+use record::layout::Layout;
+use record::layout::Section;
+ghost use mathlib.Core.Path.{_≡_};
+ghost use Prim.Native.Nat.{_+_, _*_, _≤_};
+ghost use lib.ListN.{length};
+ghost use Rattle.record.specs.Bounds.{Within};
+ghost use Rattle.record.specs.Conditions.{badMask, lateFrame, unordered, badList, badEdges, speechStart, speechEnd, badTrack};
+
+fn bad_mask(bytes: &[u8], s: Section) -> bool
+    requires { ⌜ s .start + s .count ≤ length (now bytes) ⌝ }
+    ensures { λ r. ⌜ r ≡ badMask (now (bytes .entry)) s ⌝ }
+{
+    let start = s.start;
+    let count = s.count;
+    let mut i = 0;
+    while i < count {
+        if byte_at(bytes, start + i) > 1 {
+            return true;
+        }
+        i += 1;
+    }
+    false
+}
+
+fn late_frame(bytes: &[u8], s: Section) -> bool
+    requires { ⌜ s .start + 4 * s .count ≤ length (now bytes) ⌝ }
+    ensures { λ r. ⌜ r ≡ lateFrame (now (bytes .entry)) s ⌝ }
+{
+    let start = s.start;
+    let count = s.count;
+    let mut i = 0;
+    while i < count {
+        if u32_at(bytes, start + 4 * i) > 4095 {
+            return true;
+        }
+        i += 1;
+    }
+    false
+}
+
+// Each frame is compared with the next, so the last has nothing to be compared with.
+fn unordered(bytes: &[u8], s: Section) -> bool
+    requires { ⌜ s .start + 4 * s .count ≤ length (now bytes) ⌝ }
+    ensures { λ r. ⌜ r ≡ unordered (now (bytes .entry)) s ⌝ }
+{
+    if s.count == 0 {
+        return false;
+    }
+    let start = s.start;
+    let pairs = s.count - 1;
+    let mut i = 0;
+    while i < pairs {
+        let here = u32_at(bytes, start + 4 * i);
+        if u32_at(bytes, start + 4 * (i + 1)) <= here {
+            return true;
+        }
+        i += 1;
+    }
+    false
+}
+
+fn bad_list(bytes: &[u8], s: Section) -> bool
+    requires { ⌜ s .start + 4 * s .count ≤ length (now bytes) ⌝ }
+    ensures { λ r. ⌜ r ≡ badList (now (bytes .entry)) s ⌝ }
+{
+    late_frame(bytes, s) | unordered(bytes, s)
+}
+
+fn bad_edges(start: u32, end: u32) -> bool
+    ensures { λ r. ⌜ r ≡ badEdges start end ⌝ }
+{
+    !((start == 4294967295) & (end == 4294967295)) & ((end < start) | (end > 4095))
+}
+
+fn bad_speech(bytes: &[u8], costs: usize) -> bool
+    requires { ⌜ costs + 1228 ≤ length (now bytes) ⌝ }
+    ensures { λ r. ⌜ r ≡ badEdges (speechStart (now (bytes .entry)) costs) (speechEnd (now (bytes .entry)) costs) ⌝ }
+{
+    bad_edges(u32_at(bytes, costs + 20), u32_at(bytes, costs + 24))
+}
+
+pub fn bad_track(bytes: &[u8], at: Layout) -> bool
+    requires { ⌜ Within (length (now bytes)) at ⌝ }
+    ensures { λ r. ⌜ r ≡ badTrack (now (bytes .entry)) at ⌝ }
+{
+    bad_mask(bytes, at.mask)
+        | bad_list(bytes, at.nuclei)
+        | bad_list(bytes, at.boundaries)
+        | bad_list(bytes, at.anchors)
+        | bad_list(bytes, at.added)
+        | bad_speech(bytes, at.costs)
+}
