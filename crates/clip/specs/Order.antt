@@ -1,7 +1,7 @@
 -- Spans that run in order without overlapping.
 use Prim.Native.Nat.{ℕ, _≤_}
 use mathlib.Core.List.{List, [], _∷_}
-use Rattle.clip.specs.declared.clip.Span.{Span}
+use Rattle.frames.specs.declared.span.Span.{Span}
 use Rattle.clip.specs.Clip.{Placed, anchored, unanchored}
 
 -- spans from a frame on, each starting where the one before ends or later

@@ -4,11 +4,11 @@ use mathlib.Core.Bool.{Bool, false, not, _&&_, _||_, cond}
 use mathlib.Core.List.{List, [], _∷_}
 use lib.Dec.{leb, ltb}
 use lib.ListN.{length}
-use Rattle.evidence.specs.Outcome.{Outcome, accepted, refused, check, checked, anyAbove, lastFrame, mostBytes}
+use Rattle.frames.specs.Outcome.{Outcome, accepted, refused, check, checked, anyAbove, lastFrame, mostBytes}
 use Rattle.evidence.specs.Masks.{marked}
-use Rattle.evidence.specs.Frames.{exists, beyond, orElse}
-use Rattle.evidence.specs.declared.frames.Nearest.{Nearest}
-use Rattle.evidence.specs.declared.frames.Nearest.the-variants.{None, At}
+use Rattle.frames.specs.Frames.{exists, beyond, orElse}
+use Rattle.frames.specs.declared.list.Nearest.{Nearest}
+use Rattle.frames.specs.declared.list.Nearest.the-variants.{None, At}
 use Rattle.evidence.specs.declared.evidence.TailAnswer.{TailAnswer}
 use Rattle.evidence.specs.declared.evidence.TailAnswer.the-variants.{Creaky, Size, Track}
 
