@@ -11,8 +11,8 @@ use Rattle.paths.specs.Marks.{Bounds, unitsOf}
 use Rattle.paths.specs.Anchors.{Anchor, kept, heldIn}
 use Rattle.paths.specs.StageProblem.{boundary}
 use Rattle.paths.specs.LookAhead.{rowOr}
-use Rattle.evidence.specs.Spans.{spanOf}
-use Rattle.clip.specs.declared.clip.Span.{Span}
+use Rattle.spans.specs.Spans.{spanOf}
+use Rattle.frames.specs.declared.span.Span.{Span}
 use Rattle.clip.specs.Clip.{Placed, anchored, unanchored, reported}
 use Rattle.entries.specs.Entry.{ReportedUnit, noRow}
 

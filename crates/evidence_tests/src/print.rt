@@ -1,9 +1,9 @@
 // Answers in text.
 
-use evidence::duration::RateAnswer;
-use evidence::evidence::SpansAnswer;
 use evidence::evidence::TailAnswer;
 use evidence::joins::JoinsAnswer;
+use rate::duration::RateAnswer;
+use spans::spans::SpansAnswer;
 
 fn refused(number: u64) {
     io::write_all(1, b"refused ");

@@ -6,13 +6,12 @@ use mathlib.Core.List.{List, [], _∷_}
 use native.Mathlib.Nat.{sub-self}
 use native.Mathlib.Omega.{arith}
 use lib.Dec.{ltb, eqb}
-use lib.IntN.{negsuc}
-use lib.Ieee.{Float, fin, binary64, add, mul, lt, ofInt, ofBits}
+use lib.Ieee.{Float, binary64, add, mul, lt, ofInt, ofBits}
 use lib.ListN.{length, replicate}
 use Rattle.rate.specs.Rate.{insert, sorted, gapsAfter, below, standsAt, firstAt, counted, half, frameSeconds, nought, median, positiveOr, rate}
 
 -- "frames 10, 30, 60 give rate 0.25", whatever the default
-pub rate-of-three : (default : Float) → rate (10 ∷ 30 ∷ 60 ∷ []) default ≡ fin false 1 (negsuc 1)
+pub rate-of-three : (default : Float) → rate (10 ∷ 30 ∷ 60 ∷ []) default ≡ ofBits binary64 0x3fd0_0000_0000_0000
 unfolding rate median sorted insert gapsAfter firstAt below add mul lt ofInt ofBits
 rate-of-three default = refl
 
