@@ -3,11 +3,10 @@
 use crate::masks;
 use frames::limits::LAST_FRAME;
 use frames::limits::MOST_BYTES;
-use frames::list;
 use frames::list::Nearest;
 ghost use mathlib.Core.Path.{_≡_};
 ghost use Prim.Native.Nat.{_-_, _<_, _^_};
-ghost use Rattle.evidence.specs.CreakyTail.{outcome, creakyTailOf, tailFrom, lastPitched, runFrom, stopOf, inTail};
+ghost use Rattle.evidence.specs.CreakyTail.{exists, beyond, outcome, creakyTailOf, tailFrom, lastPitched, runFrom, stopOf, inTail};
 
 pub enum TailAnswer {
     Creaky(bool),
@@ -17,6 +16,26 @@ pub enum TailAnswer {
 
 // A creaky tail has at least this many frames.
 const MIN_TAIL_FRAMES: usize = 5;
+
+// Whether there is a frame.
+fn exists(frame: Nearest) -> bool
+    ensures { λ r. ⌜ r ≡ exists frame ⌝ }
+{
+    match frame {
+        Nearest::None => false,
+        Nearest::At(_) => true,
+    }
+}
+
+// Whether there is a frame and it is above the limit.
+fn beyond(frame: Nearest, limit: u32) -> bool
+    ensures { λ r. ⌜ r ≡ beyond limit frame ⌝ }
+{
+    match frame {
+        Nearest::None => false,
+        Nearest::At(f) => f > limit,
+    }
+}
 
 // The last pitched frame of a span.
 fn last_pitched(pitched: &[u8], start: u32, end: u32) -> Nearest
@@ -74,7 +93,7 @@ fn tail_from(next: Nearest, pitched: &[u8], vowel_speech: &[u8], first: usize) -
     let stop = stop_of(next, pitched.len());
     let run = run_from(pitched, vowel_speech, first, stop);
     let after = first + run;
-    let joined = list::exists(next) & ((stop <= after) | masks::marked(pitched, after));
+    let joined = exists(next) & ((stop <= after) | masks::marked(pitched, after));
     (MIN_TAIL_FRAMES <= run) & !joined
 }
 
@@ -95,7 +114,7 @@ pub fn creaky_tail(
         | masks::unfit(vowel_speech)
         | (start > LAST_FRAME)
         | (end > LAST_FRAME)
-        | list::beyond(next, LAST_FRAME)
+        | beyond(next, LAST_FRAME)
     {
         return TailAnswer::Track;
     }

@@ -138,7 +138,7 @@ fn run(text: &[u8], kind: u32, at: usize) -> usize {
 }
 
 // Runs case after case, up to the end of the text.
-pub fn run_all(text: &[u8]) {
+pub(crate) fn run_all(text: &[u8]) {
     let mut at = 0;
     let mut left: u32 = 100000;
     while 0 < left {
