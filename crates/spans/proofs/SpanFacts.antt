@@ -1,5 +1,5 @@
 -- What document 01 claims of spans: each holds its nucleus, they stand in order, and they never overlap.
-use Prim.Native.Nat.{ℕ, zero, suc, _+_, _≤_, _<_, min, max}
+use Prim.Native.Nat.{ℕ, zero, suc, _+_, _≤_, _<_, zero-le, min, max}
 use mathlib.Core.Bool.{Bool, true, false, not, cond}
 use mathlib.Core.Path.{_≡_, refl, ap}
 use mathlib.Core.List.{List, _∷_, map, List·Memᴰ}
@@ -8,7 +8,8 @@ use native.Mathlib.Omega.{arith}
 use lib.Dec.{T, ltb, ltb→lt, nltb→le}
 use lib.ListN.{length}
 use Rattle.frames.specs.Frames.{highestBelow, lowestFrom, onward, ascendingFrom, orElse}
-use Rattle.spans.specs.Spans.{uncutStart, uncutEnd, startBeside, endBeside, spanOf, spansOf, Apart, none, one, more}
+use Rattle.frames.specs.Order.{InOrder}
+use Rattle.spans.specs.Spans.{uncutStart, uncutEnd, startBeside, endBeside, spanOf, spansOf}
 use Rattle.frames.specs.declared.list.Nearest.{Nearest}
 use Rattle.frames.specs.declared.list.Nearest.the-variants.{None, At}
 use Rattle.frames.proofs.Neighbours.{IsHighest, IsLowest, highest-is, lowest-is, lowest}
@@ -93,27 +94,36 @@ module _ (frames bounds : List ℕ) (lo hi : ℕ) where
       go false _ apart =
           rw (end-kept bounds lo hi f g s e refl refl there (apart tt), start-kept bounds lo hi f g s e refl refl (back m there) (apart tt)) (apart tt)
 
-  apart-on : (n : ℕ) {f : ℕ} → List·Memᴰ f frames → Apart (map (spanOf frames bounds lo hi) (f ∷ ascendingFrom n (f + 1) frames))
+  -- no span is empty
+  forward : (f : ℕ) → spanOf frames bounds lo hi f .start ≤ spanOf frames bounds lo hi f .end
+  forward f =
+      let by = starts-by f in
+      let after = ends-after f in
+      omega arith
+
+  in-order-on : (n : ℕ) {low f : ℕ} → List·Memᴰ f frames → low ≤ spanOf frames bounds lo hi f .start
+      → InOrder low (map (spanOf frames bounds lo hi) (f ∷ ascendingFrom n (f + 1) frames))
   unfolding ascendingFrom
-  apart-on zero m = one
-  apart-on (suc n) {f} m = go (lowestFrom (f + 1) frames) refl (lowest-is (f + 1) frames) (λ g there. apart-on n there)
+  in-order-on zero {f = f} m h = (h, forward f, tt)
+  in-order-on (suc n) {f = f} m h = (h, forward f, go (lowestFrom (f + 1) frames) refl (lowest-is (f + 1) frames) (λ g there up. in-order-on n there up))
     where
       go : (near : Nearest) → lowestFrom (f + 1) frames ≡ near → IsLowest (f + 1) frames near
-          → ((g : ℕ) → List·Memᴰ g frames → Apart (map (spanOf frames bounds lo hi) (g ∷ ascendingFrom n (g + 1) frames)))
-          → Apart (map (spanOf frames bounds lo hi) (f ∷ onward near (λ g. ascendingFrom n (g + 1) frames)))
-      go None there is rest = one
-      go (At g) there is rest = more (meet m there) (rest g (is .member))
+          → ((g : ℕ) → List·Memᴰ g frames → spanOf frames bounds lo hi f .end ≤ spanOf frames bounds lo hi g .start
+          → InOrder (spanOf frames bounds lo hi f .end) (map (spanOf frames bounds lo hi) (g ∷ ascendingFrom n (g + 1) frames)))
+          → InOrder (spanOf frames bounds lo hi f .end) (map (spanOf frames bounds lo hi) (onward near (λ g. ascendingFrom n (g + 1) frames)))
+      go None there is rest = tt
+      go (At g) there is rest = rest g (is .member) (meet m there)
 
   -- "spans in order, never overlapping"
-  pub apart : Apart (spansOf frames bounds lo hi)
+  pub in-order : InOrder 0 (spansOf frames bounds lo hi)
   unfolding ascendingFrom
-  apart = from (length frames)
+  in-order = from (length frames)
     where
-      from : (n : ℕ) → Apart (map (spanOf frames bounds lo hi) (ascendingFrom n 0 frames))
-      from zero = none
+      from : (n : ℕ) → InOrder 0 (map (spanOf frames bounds lo hi) (ascendingFrom n 0 frames))
+      from zero = tt
       from (suc n) = go (lowestFrom 0 frames) (lowest-is 0 frames)
         where
           go : (near : Nearest) → IsLowest 0 frames near
-              → Apart (map (spanOf frames bounds lo hi) (onward near (λ g. ascendingFrom n (g + 1) frames)))
-          go None is = none
-          go (At g) is = apart-on n (is .member)
+              → InOrder 0 (map (spanOf frames bounds lo hi) (onward near (λ g. ascendingFrom n (g + 1) frames)))
+          go None is = tt
+          go (At g) is = in-order-on n (is .member) zero-le

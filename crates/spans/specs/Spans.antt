@@ -90,9 +90,3 @@ pub record Answers (nuclei bounds : List ℕ) (lo hi : ℕ) (before : List ℕ) 
 pub record Writable (nuclei out : List ℕ) : Type 0 where
   pub within : anyAbove lastFrame nuclei ≡ false
   pub room : 2 * length (ascending nuclei) ≤ length out
-
--- Spans in order that never overlap: each starts at or past the end of the one before.
-pub data Apart : List Span → Type 0 where
-  none : Apart []
-  one : {s : Span} → Apart (s ∷ [])
-  more : {s t : Span} {ss : List Span} → s .end ≤ t .start → Apart (t ∷ ss) → Apart (s ∷ t ∷ ss)
