@@ -1,4 +1,4 @@
--- What document 01 claims of spans: each holds its nucleus, they stand in order, and they never overlap.
+-- What the Rust says of `tbu_spans` in its comment, in our words: each span holds its nucleus, and they stand in order and never overlap.
 use Prim.Native.Nat.{ℕ, zero, suc, _+_, _≤_, _<_, zero-le, min, max}
 use mathlib.Core.Bool.{Bool, true, false, not, cond}
 use mathlib.Core.Path.{_≡_, refl, ap}
@@ -40,7 +40,7 @@ both-above true h k = h
 both-above false h k = k
 
 module _ (frames bounds : List ℕ) (lo hi : ℕ) where
-  -- "each holding its nucleus"
+  -- each span holds its nucleus
   pub starts-by : (f : ℕ) → spanOf frames bounds lo hi f .start ≤ f
   unfolding spanOf
   starts-by f = go (highestBelow f frames) (highest-is f frames)
@@ -114,7 +114,7 @@ module _ (frames bounds : List ℕ) (lo hi : ℕ) where
       go None there is rest = tt
       go (At g) there is rest = rest g (is .member) (meet m there)
 
-  -- "spans in order, never overlapping"
+  -- they stand in order and never overlap
   pub in-order : InOrder 0 (spansOf frames bounds lo hi)
   unfolding ascendingFrom
   in-order = from (length frames)
