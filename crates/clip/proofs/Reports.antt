@@ -9,7 +9,7 @@ use native.Mathlib.Nat.{sub-zero}
 use lib.Dec.{eqb}
 use lib.ListN.{length, getD, take, set}
 use lib.Seq.{take-suc-set, take-all}
-use Rattle.clip.specs.declared.clip.Span.{Span}
+use Rattle.frames.specs.declared.span.Span.{Span}
 use Rattle.clip.specs.Clip.{Placed, anchored, unanchored, nearest, clipped, reportAfter, given, reported}
 use Rattle.clip.specs.Units.{noRow, unitsFrom, reportAt}
 use Rattle.clip.proofs.Units.{units-next, units-end, units-past}

@@ -3,7 +3,7 @@
 -- span to the start of the next nucleus-holding syllable's, or an empty span at the nearest point of that gap".
 use Prim.Native.Nat.{ℕ, min, max}
 use mathlib.Core.List.{List, [], _∷_, map}
-use Rattle.clip.specs.declared.clip.Span.{Span}
+use Rattle.frames.specs.declared.span.Span.{Span}
 
 -- A unit of a path: with an anchor, whose row has a span; or without one, by its path frames.
 pub data Placed : Type 0 where

@@ -6,7 +6,7 @@ use mathlib.Core.Bool.{cond}
 use mathlib.Core.List.{List, [], _∷_}
 use lib.Dec.{eqb}
 use lib.ListN.{length, getD}
-use Rattle.clip.specs.declared.clip.Span.{Span}
+use Rattle.frames.specs.declared.span.Span.{Span}
 use Rattle.clip.specs.Clip.{Placed, anchored, unanchored, report, reported, startsOf, endsOf}
 
 abbrev pub noRow : ℕ

@@ -1,5 +1,6 @@
 // Units with an anchor keep their row's span; one without is clipped to what its neighbours leave. specs/Clip.antt is the rule.
 
+use frames::span::Span;
 ghost use mathlib.Core.Path.{_≡_};
 ghost use mathlib.Core.List.{List};
 ghost use Prim.Native.Nat.{ℕ, _-_, _<_, _≤_, min, max};
@@ -9,11 +10,6 @@ ghost use Rattle.clip.specs.Units.{unitsFrom, unitsOf, reportAt, Alike, 
 
 // Stands for the row of a unit without an anchor.
 pub const NO_ROW: u32 = 4294967295;
-
-pub struct Span {
-    pub start: u32,
-    pub end: u32,
-}
 
 // The larger of two frames.
 fn larger(a: u32, b: u32) -> u32

@@ -9,7 +9,7 @@ use Rattle.stages.specs.Listed.{padded, listed, tableOf}
 use Rattle.stages.proofs.Listed.{length-listed, length-table}
 use Rattle.clip.specs.Clip.{reported, startsOf, endsOf}
 use Rattle.clip.specs.Units.{unitsFrom, unitsOf, Alike, Clipped}
-use Rattle.clip.specs.declared.clip.Span.{Span}
+use Rattle.frames.specs.declared.span.Span.{Span}
 use Rattle.decoding.proofs.Units.{length-reported}
 
 module _ (f : ℕ → ℕ) (k size : ℕ) {l : List ℕ} (e : l ≡ tableOf f k size 0) where

@@ -19,10 +19,9 @@ use Rattle.paths.specs.StageProblem.{boundary}
 use Rattle.paths.specs.Marks.{Bounds}
 use Rattle.paths.proofs.LookAhead.{Rising, kept-rising, holds-none, holds-one, holds-more}
 use Rattle.stages.specs.Tables.{beyond}
-use Rattle.evidence.specs.Spans.{spanOf}
-use Rattle.evidence.specs.declared.evidence.Span as Evidence
+use Rattle.spans.specs.Spans.{spanOf}
+use Rattle.frames.specs.declared.span.Span.{Span}
 use Rattle.clip.specs.Clip.{anchored, unanchored, given}
-use Rattle.clip.specs.declared.clip.Span.{Span}
 use Rattle.entries.specs.Entry.{noRow}
 use Rattle.decoding.specs.Report.{lowEdge, highEdge, rowSpan, heldBy, placedBy, placed}
 use Rattle.decoding.proofs.Admitted.{UnitOk}
@@ -87,7 +86,7 @@ module _ (phrase : Phrase) (stage : Stage) (up : Increasing (stage .anchors)) (l
         (λ h. ap place (le-ltb ahead to h))
         (λ h. ap place (lt-ltb ahead to h))
       where
-        span : Evidence.Span
+        span : Span
         span = spanOf (stage .anchors) (stage .boundaries) (lowEdge (phrase .speech)) (highEdge (phrase .speech)) ahead
 
         place : Bool → PlacedUnit
@@ -110,13 +109,13 @@ module _ (phrase : Phrase) (stage : Stage) (up : Increasing (stage .anchors)) (l
 -- ---- a unit with its anchor, and one without
 
 module _ (anchors bounds : List ℕ) (lo hi from to ahead row : ℕ) where
-  abbrev either : Evidence.Span → Bool → PlacedUnit
+  abbrev either : Span → Bool → PlacedUnit
   either span b = cond b (record { start = span .start; end = span .end; row = row }) (record { start = from; end = to; row = noRow })
 
-  pub place-anchored : {span : Evidence.Span} → span ≡ spanOf anchors bounds lo hi ahead → ahead < to
+  pub place-anchored : {span : Span} → span ≡ spanOf anchors bounds lo hi ahead → ahead < to
       → record { start = span .start; end = span .end; row = row } ≡ placeOf anchors bounds lo hi from to ahead row
   unfolding placeOf
-  place-anchored e h = ap (λ (s : Evidence.Span). either s true) e ∙ ap (either (spanOf anchors bounds lo hi ahead)) (sym (lt-ltb ahead to h))
+  place-anchored e h = ap (λ (s : Span). either s true) e ∙ ap (either (spanOf anchors bounds lo hi ahead)) (sym (lt-ltb ahead to h))
 
   pub place-bare : to ≤ ahead → record { start = from; end = to; row = noRow } ≡ placeOf anchors bounds lo hi from to ahead row
   unfolding placeOf

@@ -28,7 +28,7 @@ use Rattle.prepare.specs.Sides.{durationsOf, SideOf}
 use Rattle.prepare.proofs.Lists.{its-length, its-front}
 use Rattle.clip.specs.Clip.{Placed, anchored, unanchored, reported}
 use Rattle.clip.specs.Units.{unitAt, unitsFrom}
-use Rattle.clip.specs.declared.clip.Span.{Span}
+use Rattle.frames.specs.declared.span.Span.{Span}
 use Rattle.entries.specs.Entry.{noRow}
 use Rattle.decode.specs.declared.report.PlacedUnit.{PlacedUnit}
 use Rattle.decode.specs.declared.report.Reported.{Reported}

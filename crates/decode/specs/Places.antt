@@ -7,7 +7,7 @@ use lib.Dec.{ltb}
 use lib.IntN.{pos}
 use lib.ListN.{length, getD, take, replicate}
 use lib.Ieee.{Float, binary32, mul, ofInt}
-use Rattle.evidence.specs.Spans.{spanOf}
+use Rattle.spans.specs.Spans.{spanOf}
 use Rattle.entries.specs.Entry.{ReportedUnit, noRow}
 use Rattle.entries.specs.EntryFrom.{unitAt}
 use Rattle.stages.specs.Listed.{padded, listed, tableOf}

@@ -2,9 +2,9 @@
 
 use clip::clip::NO_ROW;
 use clip::clip::clip_unanchored;
-use evidence::evidence::span_of;
 use prepare::side::Side;
 use rows::trace::Units;
+use spans::edges::span_of;
 ghost use mathlib.Core.Path.{_≡_};
 ghost use Rattle.decode.specs.Places.{placeOf, Placeable, PlacedAll, ReportedAll};
 

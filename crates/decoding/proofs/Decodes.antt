@@ -5,7 +5,7 @@ use mathlib.Core.Option.{Option, none, some, Option·none-ne-some, Option·some-
 use mathlib.Core.Path.{_≡_, refl, sym, ap, _∙_}
 use lib.ListN.{length, replicate, drop}
 use lib.Ieee.{Float, binary64, ofBits}
-use Rattle.evidence.specs.Outcome.{accepted}
+use Rattle.frames.specs.Outcome.{accepted}
 use Rattle.record.specs.Edition.{edition1}
 use Rattle.record.specs.Refusals.{refusalWith}
 use Rattle.record.specs.Meaning.{phraseOf}

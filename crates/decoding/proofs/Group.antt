@@ -18,12 +18,13 @@ use Rattle.paths.specs.StageProblem.{cost, unitValueOf}
 use Rattle.paths.specs.Passes.{hasNucleus}
 use Rattle.paths.specs.Marks.{unitsOf}
 use Rattle.paths.specs.Search.{chosen}
-use Rattle.evidence.specs.Outcome.{accepted}
-use Rattle.evidence.specs.Frames.{highestBelow, lowestFrom}
-use Rattle.evidence.specs.Spans.{spansOf}
-use Rattle.evidence.specs.Rate.{rate}
-use Rattle.evidence.proofs.Examples as evidence
-use Rattle.clip.specs.declared.clip.Span.{Span}
+use Rattle.frames.specs.Outcome.{accepted}
+use Rattle.frames.specs.Frames.{highestBelow, lowestFrom}
+use Rattle.spans.specs.Spans.{spansOf}
+use Rattle.rate.specs.Rate.{rate}
+use Rattle.spans.proofs.Examples as span-examples
+use Rattle.rate.proofs.Examples as rate-examples
+use Rattle.frames.specs.declared.span.Span.{Span}
 use Rattle.clip.specs.Clip.{anchored, unanchored, reported}
 use Rattle.clip.proofs.Examples as clip
 use Rattle.record.specs.Bytes.{u32At, u64At}
@@ -104,15 +105,15 @@ unit-frames = refl
 -- ---- "frames 10, 30, 60 give rate 0.25; equal frames give the default"
 
 pub rate-quarter : (default : Float) → rate (10 ∷ 30 ∷ 60 ∷ []) default ≡ ofBits binary64 0x3fd0_0000_0000_0000
-rate-quarter = evidence.rate-of-three
+rate-quarter = rate-examples.rate-of-three
 
 pub rate-default : (n frame : ℕ) (default : Float) → rate (replicate n frame) default ≡ default
-rate-default = evidence.equal-frames
+rate-default = rate-examples.equal-frames
 
 -- ---- "nuclei 10, 13 with edges 5, 20 and no boundaries give 5..12, 12..20"
 
 pub spans-cut : spansOf (10 ∷ 13 ∷ []) [] 5 20 ≡ record { start = 5; end = 12 } ∷ record { start = 12; end = 20 } ∷ []
-spans-cut = evidence.two-spans
+spans-cut = span-examples.two-spans
 
 -- ---- "clip of 10..22 between anchored 4..14 and 18..30 gives 14..18; first unit 20..28 before anchored 15..30 gives 20..20"
 

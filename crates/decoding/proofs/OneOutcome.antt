@@ -6,7 +6,7 @@ use mathlib.Core.Option.{Option, none, some}
 use mathlib.Core.Path.{_≡_, refl, sym, ap, _∙_}
 use lib.ListN.{length, getD}
 use lib.Ieee.{Float}
-use Rattle.evidence.specs.Outcome.{Outcome, accepted, refused}
+use Rattle.frames.specs.Outcome.{Outcome, accepted, refused}
 use Rattle.record.specs.Refusals.{numberOf, refusalWith}
 use Rattle.record.specs.declared.refusal.Refusal.{Refusal}
 use Rattle.record.specs.declared.refusal.Refusal.the-variants.{Stub, Edition, Size, Reach, Track, Cost, Bare, Twice, Units, Column, Desk}

@@ -8,7 +8,7 @@ use borrow.Author.Tests.{eqb-false}
 use lib.Dec.{lit≤}
 use lib.ListN.{length, getD, replicate}
 use lib.Ieee.{Float}
-use Rattle.evidence.specs.Outcome.{Outcome, accepted, refused}
+use Rattle.frames.specs.Outcome.{Outcome, accepted, refused}
 use Rattle.phrase.specs.Phrase.{Candidate}
 use Rattle.record.specs.Edition.{edition1}
 use Rattle.record.specs.Conditions.{shortDesk}

@@ -7,7 +7,7 @@ use lib.ListN.{length, replicate, drop}
 use lib.Ieee.{Float, binary64, ofBits}
 use Rattle.phrase.specs.Phrase.{Phrase, Candidate}
 use Rattle.paths.specs.Demand.{Answer, Demanded}
-use Rattle.evidence.specs.Outcome.{Outcome, accepted, refused}
+use Rattle.frames.specs.Outcome.{Outcome, accepted, refused}
 use Rattle.entries.specs.Entry.{Entry}
 use Rattle.entries.specs.Words.{allWords}
 use Rattle.entries.specs.Ranking.{ranked, Ranked}

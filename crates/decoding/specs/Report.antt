@@ -11,8 +11,8 @@ use Rattle.paths.specs.Marks.{Bounds, unitsOf}
 use Rattle.paths.specs.Anchors.{Anchor, kept, heldIn}
 use Rattle.paths.specs.StageProblem.{boundary}
 use Rattle.paths.specs.LookAhead.{rowOr}
-use Rattle.evidence.specs.Spans.{spanOf}
-use Rattle.clip.specs.declared.clip.Span.{Span}
+use Rattle.spans.specs.Spans.{spanOf}
+use Rattle.frames.specs.declared.span.Span.{Span}
 use Rattle.clip.specs.Clip.{Placed, anchored, unanchored, reported}
 use Rattle.entries.specs.Entry.{ReportedUnit, noRow}
 
@@ -35,9 +35,7 @@ highEdge (spoken start end) = end
 -- The span of an anchor's row, among all frames that the stage lists: those outside the mask are dropped from the search only.
 unfoldable pub rowSpan : Phrase → Stage → ℕ → Span
 unfolding spanOf
-rowSpan phrase stage frame =
-    let span = spanOf (stage .anchors) (stage .boundaries) (lowEdge (phrase .speech)) (highEdge (phrase .speech)) frame in
-    record { start = span .start; end = span .end }
+rowSpan phrase stage frame = spanOf (stage .anchors) (stage .boundaries) (lowEdge (phrase .speech)) (highEdge (phrase .speech)) frame
 
 -- the path frames of a unit, from boundary to boundary
 abbrev pub pathSpan : Stage → Bounds → Span

@@ -9,7 +9,7 @@ use native.Mathlib.Omega.{arith}
 use borrow.Author.Tests.{le-leb, lt-leb}
 use Rattle.evidence.specs.Masks.{marked}
 use Rattle.evidence.specs.CreakyTail.{lastPitched, inTail, runFrom}
-use Rattle.evidence.specs.declared.frames.Nearest.the-variants.{None, At}
+use Rattle.frames.specs.declared.list.Nearest.the-variants.{None, At}
 
 module _ (pitched : List ℕ) (start : ℕ) where
   last-turn : (i : ℕ) → start < i

@@ -1,16 +1,25 @@
 -- `creaky_tail` (document 01, "Spans, marks and order").
 use Prim.Native.Nat.{ℕ, zero, suc, _+_, _-_, min}
-use mathlib.Core.Bool.{Bool, false, not, _&&_, _||_, cond}
+use mathlib.Core.Bool.{Bool, true, false, not, _&&_, _||_, cond}
 use mathlib.Core.List.{List, [], _∷_}
 use lib.Dec.{leb, ltb}
 use lib.ListN.{length}
-use Rattle.evidence.specs.Outcome.{Outcome, accepted, refused, check, checked, anyAbove, lastFrame, mostBytes}
+use Rattle.frames.specs.Outcome.{Outcome, accepted, refused, check, checked, anyAbove, lastFrame, mostBytes}
 use Rattle.evidence.specs.Masks.{marked}
-use Rattle.evidence.specs.Frames.{exists, beyond, orElse}
-use Rattle.evidence.specs.declared.frames.Nearest.{Nearest}
-use Rattle.evidence.specs.declared.frames.Nearest.the-variants.{None, At}
+use Rattle.frames.specs.Frames.{orElse}
+use Rattle.frames.specs.declared.list.Nearest.{Nearest}
+use Rattle.frames.specs.declared.list.Nearest.the-variants.{None, At}
 use Rattle.evidence.specs.declared.evidence.TailAnswer.{TailAnswer}
 use Rattle.evidence.specs.declared.evidence.TailAnswer.the-variants.{Creaky, Size, Track}
+
+-- "there is a next nucleus", and it is a "frame above 4,095"
+abbrev pub exists : Nearest → Bool
+exists None = false
+exists (At f) = true
+
+abbrev pub beyond : ℕ → Nearest → Bool
+beyond limit None = false
+beyond limit (At f) = ltb limit f
 
 -- "the last pitched frame from the span's start up to but not including its end, within the pitch mask"
 unfoldable pub lastPitched : List ℕ → ℕ → ℕ → Nearest

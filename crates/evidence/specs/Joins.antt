@@ -4,7 +4,7 @@ use mathlib.Core.Bool.{Bool, _&&_, _||_}
 use mathlib.Core.List.{List, [], _∷_}
 use lib.Dec.{leb, ltb}
 use lib.ListN.{length}
-use Rattle.evidence.specs.Outcome.{Outcome, accepted, refused, check, checked, anyAbove, lastFrame, mostBytes}
+use Rattle.frames.specs.Outcome.{Outcome, accepted, refused, check, checked, anyAbove, lastFrame, mostBytes}
 use Rattle.evidence.specs.Masks.{allMarked}
 use Rattle.evidence.specs.declared.joins.JoinsAnswer.{JoinsAnswer}
 use Rattle.evidence.specs.declared.joins.JoinsAnswer.the-variants.{Joined, Size, Track}

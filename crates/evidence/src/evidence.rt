@@ -1,16 +1,12 @@
-// Creaky tails and unit spans, after evidence.rs.
+// Creaky tails, after `creaky_tail` of evidence.rs.
 
-use crate::frames;
-use crate::frames::Nearest;
-use crate::limits::LAST_FRAME;
-use crate::limits::MOST_BYTES;
-use crate::limits::MOST_FRAMES;
 use crate::masks;
+use frames::limits::LAST_FRAME;
+use frames::limits::MOST_BYTES;
+use frames::list::Nearest;
 ghost use mathlib.Core.Path.{_≡_};
-ghost use Prim.Native.Nat.{_+_, _-_, _<_, _≤_, _^_};
-ghost use Rattle.evidence.specs.Spans.{uncutStart, uncutEnd, cut, startBeside, endBeside, spanOf, spansOf, wordsOf, overwritten, Writable, Answers};
-ghost use Rattle.evidence.specs.Frames.{highestBelow, lowestFrom};
-ghost use Rattle.evidence.specs.CreakyTail.{outcome, creakyTailOf, tailFrom, lastPitched, runFrom, stopOf, inTail};
+ghost use Prim.Native.Nat.{_-_, _<_, _^_};
+ghost use Rattle.evidence.specs.CreakyTail.{exists, beyond, outcome, creakyTailOf, tailFrom, lastPitched, runFrom, stopOf, inTail};
 
 pub enum TailAnswer {
     Creaky(bool),
@@ -18,20 +14,28 @@ pub enum TailAnswer {
     Track,
 }
 
-pub struct Span {
-    pub start: u32,
-    pub end: u32,
-}
-
-pub enum SpansAnswer {
-    Spans(usize),
-    Size,
-    Track,
-    Desk,
-}
-
 // A creaky tail has at least this many frames.
 const MIN_TAIL_FRAMES: usize = 5;
+
+// Whether there is a frame.
+fn exists(frame: Nearest) -> bool
+    ensures { λ r. ⌜ r ≡ exists frame ⌝ }
+{
+    match frame {
+        Nearest::None => false,
+        Nearest::At(_) => true,
+    }
+}
+
+// Whether there is a frame and it is above the limit.
+fn beyond(frame: Nearest, limit: u32) -> bool
+    ensures { λ r. ⌜ r ≡ beyond limit frame ⌝ }
+{
+    match frame {
+        Nearest::None => false,
+        Nearest::At(f) => f > limit,
+    }
+}
 
 // The last pitched frame of a span.
 fn last_pitched(pitched: &[u8], start: u32, end: u32) -> Nearest
@@ -89,7 +93,7 @@ fn tail_from(next: Nearest, pitched: &[u8], vowel_speech: &[u8], first: usize) -
     let stop = stop_of(next, pitched.len());
     let run = run_from(pitched, vowel_speech, first, stop);
     let after = first + run;
-    let joined = frames::exists(next) & ((stop <= after) | masks::marked(pitched, after));
+    let joined = exists(next) & ((stop <= after) | masks::marked(pitched, after));
     (MIN_TAIL_FRAMES <= run) & !joined
 }
 
@@ -110,7 +114,7 @@ pub fn creaky_tail(
         | masks::unfit(vowel_speech)
         | (start > LAST_FRAME)
         | (end > LAST_FRAME)
-        | frames::beyond(next, LAST_FRAME)
+        | beyond(next, LAST_FRAME)
     {
         return TailAnswer::Track;
     }
@@ -120,133 +124,4 @@ pub fn creaky_tail(
             TailAnswer::Creaky(tail_from(next, pitched, vowel_speech, last as usize + 1))
         }
     }
-}
-
-// A span's edges by the boundaries alone.
-fn uncut_start(bounds: &[u32], lo_edge: u32, frame: u32) -> u32
-    ensures { λ r. ⌜ r ≡ uncutStart (now (bounds .entry)) «lo_edge» frame ⌝ }
-{
-    match frames::highest_below(bounds, frame) {
-        Nearest::At(b) => b,
-        Nearest::None => { if lo_edge < frame { lo_edge } else { frame } }
-    }
-}
-
-fn uncut_end(bounds: &[u32], hi_edge: u32, frame: u32) -> u32
-    requires { ⌜ frame + 1 < 2 ^ 32 ⌝ }
-    ensures { λ r. ⌜ r ≡ uncutEnd (now (bounds .entry)) «hi_edge» frame ⌝ }
-{
-    match frames::lowest_from(bounds, frame + 1) {
-        Nearest::At(b) => b,
-        Nearest::None => {
-            if frame + 1 < hi_edge {
-                hi_edge
-            } else {
-                frame + 1
-            }
-        }
-    }
-}
-
-// The frame midway between two neighbours, rounded up, so that each stays inside its own span.
-fn cut(left: u32, right: u32) -> u32
-    requires { ⌜ left ≤ right ⌝ }
-    ensures { λ r. ⌜ r ≡ cut left right ⌝ }
-{
-    let apart = right - left;
-    left + (apart / 2 + apart % 2)
-}
-
-// A span's edges, cut where its neighbours overlap it.
-fn span_start(frames: &[u32], bounds: &[u32], lo_edge: u32, hi_edge: u32, frame: u32) -> u32
-    requires { ⌜ frame + 1 < 2 ^ 32 ⌝ }
-    ensures { λ r. ⌜ r ≡ startBeside (now (bounds .entry)) «lo_edge» «hi_edge» (highestBelow frame (now (frames .entry))) frame ⌝ }
-{
-    let start = uncut_start(bounds, lo_edge, frame);
-    match frames::highest_below(frames, frame) {
-        Nearest::None => start,
-        Nearest::At(left) => {
-            if start < uncut_end(bounds, hi_edge, left) {
-                cut(left, frame)
-            } else {
-                start
-            }
-        }
-    }
-}
-
-fn span_end(frames: &[u32], bounds: &[u32], lo_edge: u32, hi_edge: u32, frame: u32) -> u32
-    requires { ⌜ frame + 1 < 2 ^ 32 ⌝ }
-    ensures { λ r. ⌜ r ≡ endBeside (now (bounds .entry)) «lo_edge» «hi_edge» frame (lowestFrom (frame + 1) (now (frames .entry))) ⌝ }
-{
-    let end = uncut_end(bounds, hi_edge, frame);
-    match frames::lowest_from(frames, frame + 1) {
-        Nearest::None => end,
-        Nearest::At(right) => {
-            if uncut_start(bounds, lo_edge, right) < end {
-                cut(frame, right)
-            } else {
-                end
-            }
-        }
-    }
-}
-
-// The span of one frame of a stage, by the stage's frames and boundaries.
-pub fn span_of(frames: &[u32], bounds: &[u32], lo_edge: u32, hi_edge: u32, frame: u32) -> Span
-    requires { ⌜ frame + 1 < 2 ^ 32 ⌝ }
-    ensures { λ r. ⌜ r ≡ spanOf (now (frames .entry)) (now (bounds .entry)) «lo_edge» «hi_edge» frame ⌝ }
-{
-    Span {
-        start: span_start(frames, bounds, lo_edge, hi_edge, frame),
-        end: span_end(frames, bounds, lo_edge, hi_edge, frame),
-    }
-}
-
-// Writes the spans from the output's first cell on.
-fn write_spans(nuclei: &[u32], bounds: &[u32], lo_edge: u32, hi_edge: u32, out: &mut [u32])
-    requires { ⌜ Writable (now nuclei) (now out) ⌝ }
-    ensures { λ _. ⌜ now (out .exit) ≡ overwritten (wordsOf (spansOf (now (nuclei .entry)) (now (bounds .entry)) «lo_edge» «hi_edge»)) (now (out .entry)) ⌝ }
-{
-    let mut count: usize = 0;
-    let mut from = 0;
-    loop {
-        let Nearest::At(f) = frames::lowest_from(nuclei, from) else {
-            return;
-        };
-        let span = span_of(nuclei, bounds, lo_edge, hi_edge, f);
-        let at = 2 * count;
-        out[at] = span.start;
-        out[at + 1] = span.end;
-        count += 1;
-        from = f + 1;
-    }
-}
-
-// The span of each distinct nucleus, ascending, as two words each; the answer is how many there are.
-pub fn tbu_spans(
-    nuclei: &[u32],
-    bounds: &[u32],
-    lo_edge: u32,
-    hi_edge: u32,
-    out: &mut [u32],
-) -> SpansAnswer
-    ensures { λ r. ⌜ Answers (now (nuclei .entry)) (now (bounds .entry)) «lo_edge» «hi_edge» (now (out .entry)) r (now (out .exit)) ⌝ }
-{
-    if (nuclei.len() > MOST_FRAMES) | (bounds.len() > MOST_FRAMES) {
-        return SpansAnswer::Size;
-    }
-    if frames::any_above(nuclei, LAST_FRAME)
-        | frames::any_above(bounds, LAST_FRAME)
-        | (lo_edge > LAST_FRAME)
-        | (hi_edge > LAST_FRAME)
-    {
-        return SpansAnswer::Track;
-    }
-    let count = frames::distinct(nuclei);
-    if out.len() < 2 * count {
-        return SpansAnswer::Desk;
-    }
-    write_spans(nuclei, bounds, lo_edge, hi_edge, out);
-    SpansAnswer::Spans(count)
 }

@@ -1,8 +1,8 @@
 // Which edges of a span are joined to a neighbouring syllable, after `joins` of evidence.rs.
 
-use crate::limits::LAST_FRAME;
-use crate::limits::MOST_BYTES;
 use crate::masks;
+use frames::limits::LAST_FRAME;
+use frames::limits::MOST_BYTES;
 ghost use mathlib.Core.Path.{_≡_};
 ghost use Rattle.evidence.specs.Joins.{joined, outcome, joinsOf};
 

@@ -3,7 +3,7 @@
 ghost use mathlib.Core.Path.{_≡_};
 ghost use Prim.Native.Nat.{_+_, _<_, _^_};
 ghost use Rattle.evidence.specs.Masks.{marked, allMarked};
-ghost use Rattle.evidence.specs.Outcome.{anyAbove};
+ghost use Rattle.frames.specs.Outcome.{anyAbove};
 
 // Whether a byte is above 1, which no mask has.
 pub fn unfit(mask: &[u8]) -> bool

@@ -2,10 +2,10 @@
 
 use crate::input;
 use crate::print;
-use evidence::duration;
-use evidence::frames::Nearest;
 use evidence::joins;
-use evidence::stage;
+use frames::list::Nearest;
+use frames::stage;
+use rate::duration;
 
 // A default for a rate: within the range, at its ends and just past them, and what is no number or not finite.
 fn default_of(k: u32) -> f64 {
@@ -35,7 +35,7 @@ fn rate_case(text: &[u8], at: usize) -> usize {
 }
 
 fn spans(nuclei: &[u32], bounds: &[u32], lo_edge: u32, hi_edge: u32, out: &mut [u32]) {
-    print::spans(evidence::evidence::tbu_spans(nuclei, bounds, lo_edge, hi_edge, out));
+    print::spans(spans::spans::tbu_spans(nuclei, bounds, lo_edge, hi_edge, out));
     print::cells(out);
     print::end_line();
 }
@@ -138,7 +138,7 @@ fn run(text: &[u8], kind: u32, at: usize) -> usize {
 }
 
 // Runs case after case, up to the end of the text.
-pub fn run_all(text: &[u8]) {
+pub(crate) fn run_all(text: &[u8]) {
     let mut at = 0;
     let mut left: u32 = 100000;
     while 0 < left {

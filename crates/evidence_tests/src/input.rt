@@ -5,9 +5,9 @@ ghost use lib.ListN.{length};
 ghost use Rattle.io.specs.Counts.{Counts};
 
 // A number, and where the text goes on.
-pub struct Read {
-    pub value: u32,
-    pub next: usize,
+pub(crate) struct Read {
+    pub(crate) value: u32,
+    pub(crate) next: usize,
 }
 
 fn is_digit(b: u8) -> bool {
@@ -47,7 +47,7 @@ fn clamped(value: u64) -> u32 {
 }
 
 // The number whose first digit stands from `at` on; 0 at the end of the text.
-pub fn number(text: &[u8], at: usize) -> Read {
+pub(crate) fn number(text: &[u8], at: usize) -> Read {
     let mut i = skip(text, at);
     let mut value: u64 = 0;
     while i < text.len() {
@@ -68,9 +68,9 @@ pub fn number(text: &[u8], at: usize) -> Read {
 }
 
 // How many cells are filled, and where the text goes on.
-pub struct Filled {
-    pub len: usize,
-    pub next: usize,
+pub(crate) struct Filled {
+    pub(crate) len: usize,
+    pub(crate) next: usize,
 }
 
 fn at_most(n: u32, most: usize) -> usize
@@ -99,7 +99,7 @@ fn fill(cells: &mut [u8], from: usize, count: u32, value: u8) -> usize
 }
 
 // Reads a mask: how many runs it has, and for each its length and its byte.
-pub fn mask(text: &[u8], at: usize, cells: &mut [u8]) -> Filled
+pub(crate) fn mask(text: &[u8], at: usize, cells: &mut [u8]) -> Filled
     ensures { λ r. ⌜ Counts (r .len) (now (cells .exit)) ⌝ }
 {
     let runs = number(text, at);
@@ -117,7 +117,7 @@ pub fn mask(text: &[u8], at: usize, cells: &mut [u8]) -> Filled
 }
 
 // Reads a list: how many numbers it has, and then those.
-pub fn list(text: &[u8], at: usize, cells: &mut [u32]) -> Filled
+pub(crate) fn list(text: &[u8], at: usize, cells: &mut [u32]) -> Filled
     ensures { λ r. ⌜ Counts (r .len) (now (cells .exit)) ⌝ }
 {
     let count = number(text, at);
@@ -134,7 +134,7 @@ pub fn list(text: &[u8], at: usize, cells: &mut [u32]) -> Filled
 }
 
 // Reads how many of the cells are lent.
-pub fn lent(text: &[u8], at: usize, cells: &[u32]) -> Filled
+pub(crate) fn lent(text: &[u8], at: usize, cells: &[u32]) -> Filled
     ensures { λ r. ⌜ Counts (r .len) (now (cells .entry)) ⌝ }
 {
     let count = number(text, at);

@@ -1,9 +1,9 @@
 // Answers in text.
 
-use evidence::duration::RateAnswer;
-use evidence::evidence::SpansAnswer;
 use evidence::evidence::TailAnswer;
 use evidence::joins::JoinsAnswer;
+use rate::duration::RateAnswer;
+use spans::spans::SpansAnswer;
 
 fn refused(number: u64) {
     io::write_all(1, b"refused ");
@@ -14,7 +14,7 @@ fn bit(b: bool) {
     io::print_decimal(1, if b { 1 } else { 0 });
 }
 
-pub fn end_line() {
+pub(crate) fn end_line() {
     io::write_all(1, b"\n");
 }
 
@@ -22,7 +22,7 @@ fn wide(n: u32) -> u64 {
     n as u64
 }
 
-pub fn cells(cells: &[u32]) {
+pub(crate) fn cells(cells: &[u32]) {
     io::write_all(1, b":");
     let mut i = 0;
     while i < cells.len() {
@@ -39,7 +39,7 @@ fn bits(r: f64) {
     }
 }
 
-pub fn rate(answer: RateAnswer) {
+pub(crate) fn rate(answer: RateAnswer) {
     match answer {
         RateAnswer::Seconds(r) => {
             io::write_all(1, b"rate ");
@@ -51,7 +51,7 @@ pub fn rate(answer: RateAnswer) {
     }
 }
 
-pub fn spans(answer: SpansAnswer) {
+pub(crate) fn spans(answer: SpansAnswer) {
     match answer {
         SpansAnswer::Spans(n) => {
             io::write_all(1, b"spans ");
@@ -63,7 +63,7 @@ pub fn spans(answer: SpansAnswer) {
     }
 }
 
-pub fn joins(answer: JoinsAnswer) {
+pub(crate) fn joins(answer: JoinsAnswer) {
     match answer {
         JoinsAnswer::Joined { start, end } => {
             io::write_all(1, b"joins ");
@@ -76,7 +76,7 @@ pub fn joins(answer: JoinsAnswer) {
     }
 }
 
-pub fn tail(answer: TailAnswer) {
+pub(crate) fn tail(answer: TailAnswer) {
     match answer {
         TailAnswer::Creaky(yes) => {
             io::write_all(1, b"creaky ");
@@ -87,7 +87,7 @@ pub fn tail(answer: TailAnswer) {
     }
 }
 
-pub fn stage(boundaries: &[u32]) {
+pub(crate) fn stage(boundaries: &[u32]) {
     io::write_all(1, b"stage ");
     io::print_decimal(1, boundaries.len() as u64);
     cells(boundaries);

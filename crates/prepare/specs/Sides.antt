@@ -12,8 +12,8 @@ use Rattle.stages.specs.Listed.{padded, tableOf}
 use Rattle.stages.specs.Filler.{noCost}
 use Rattle.paths.specs.Anchors.{kept}
 use Rattle.paths.specs.LookAhead.{firstAhead}
-use Rattle.evidence.specs.Spans.{spanOf}
-use Rattle.evidence.specs.declared.evidence.Span.{Span}
+use Rattle.spans.specs.Spans.{spanOf}
+use Rattle.frames.specs.declared.span.Span.{Span}
 use Rattle.stages.specs.Room.{most}
 use Rattle.stages.specs.Tables.{Tabled, beyond, tableAt, tablesIn}
 use Rattle.stages.specs.Made.{tablesOf}

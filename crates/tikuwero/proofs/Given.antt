@@ -4,13 +4,13 @@ use mathlib.Core.List.{List}
 use mathlib.Core.Path.{_≡_, sym, ap, _∙_}
 use lib.Ieee.{Float}
 use lib.IntN.{ℤ}
-use Rattle.evidence.specs.Outcome.{Outcome}
-use Rattle.evidence.specs.Spans.{Answers, outcome, written, wordsOf, spansOf}
+use Rattle.frames.specs.Outcome.{Outcome}
+use Rattle.spans.specs.Spans.{Answers, outcome, written, wordsOf, spansOf}
 use Rattle.evidence.specs.CreakyTail as CreakyTail
 use Rattle.evidence.specs.CreakyTail.{creakyTailOf}
-use Rattle.evidence.specs.declared.evidence.SpansAnswer.{SpansAnswer}
+use Rattle.spans.specs.declared.spans.SpansAnswer.{SpansAnswer}
 use Rattle.evidence.specs.declared.evidence.TailAnswer.{TailAnswer}
-use Rattle.evidence.specs.declared.frames.Nearest.{Nearest}
+use Rattle.frames.specs.declared.list.Nearest.{Nearest}
 use Rattle.decoding.specs.Contract as Contract
 use Rattle.decoding.specs.Contract.{Decodes}
 use Rattle.decoding.specs.declared.answer.Decoded.{Decoded}

@@ -9,9 +9,9 @@ use native.Mathlib.Omega.{arith}
 use lib.Dec.{ltb}
 use lib.ListN.{length}
 use borrow.Author.Tests.{ltb-false}
-use Rattle.evidence.specs.Outcome.{Outcome, accepted, refused, anyAbove, lastFrame, mostFrames}
-use Rattle.evidence.specs.Frames.{lowestFrom, onward, ascendingFrom, ascending}
-use Rattle.evidence.specs.Spans.{tbuSpansOf}
+use Rattle.frames.specs.Outcome.{Outcome, accepted, refused, anyAbove, lastFrame, mostFrames}
+use Rattle.frames.specs.Frames.{lowestFrom, onward, ascendingFrom, ascending}
+use Rattle.spans.specs.Spans.{tbuSpansOf}
 use Rattle.record.specs.Edition.{edition1}
 use Rattle.record.specs.Layout.{layoutOf}
 use Rattle.record.specs.Meaning.{phraseOf}
@@ -21,8 +21,8 @@ use Rattle.record.specs.declared.refusal.Refusal.the-variants.{Stub, Edition, S
 use Rattle.record.proofs.Accepted.{counts}
 use Rattle.decoding.specs.Contract.{outcomeOf}
 use Rattle.decoding.proofs.Calls.{own-rules, candidates-counted}
-use Rattle.evidence.specs.declared.frames.Nearest.{Nearest}
-use Rattle.evidence.specs.declared.frames.Nearest.the-variants.{None, At}
+use Rattle.frames.specs.declared.list.Nearest.{Nearest}
+use Rattle.frames.specs.declared.list.Nearest.the-variants.{None, At}
 
 -- a walk has at most as many frames as turns
 walked : (n f : ℕ) (xs : List ℕ) → length (ascendingFrom n f xs) ≤ n

@@ -5,8 +5,8 @@ use mathlib.Core.Path.{_≡_}
 use lib.IntN.{ℤ}
 use lib.Ieee.{Float}
 use lib.ListN.{length}
-use Rattle.evidence.specs.Rate.{rateOf}
-use Rattle.evidence.specs.Spans.{tbuSpansOf, wordsOf, spansOf, written}
+use Rattle.rate.specs.Rate.{rateOf}
+use Rattle.spans.specs.Spans.{tbuSpansOf, wordsOf, spansOf, written}
 use Rattle.record.specs.Refusals.{refusalWith}
 use Rattle.record.specs.Meaning.{phraseOf}
 use Rattle.decoding.specs.Contract.{Decodes, outcomeOf}

@@ -3,10 +3,10 @@ use Prim.Native.Nat.{ℕ, _+_, _*_}
 use mathlib.Core.Bool.{Bool, cond}
 use lib.Dec.{eqb}
 use lib.IntN.{ℤ, pos, negℤ}
-use Rattle.evidence.specs.Outcome.{Outcome, accepted, refused}
+use Rattle.frames.specs.Outcome.{Outcome, accepted, refused}
 use Rattle.evidence.specs.Joins.{Edges}
-use Rattle.evidence.specs.declared.frames.Nearest.{Nearest}
-use Rattle.evidence.specs.declared.frames.Nearest.the-variants.{None, At}
+use Rattle.frames.specs.declared.list.Nearest.{Nearest}
+use Rattle.frames.specs.declared.list.Nearest.the-variants.{None, At}
 
 -- "An accepted call returns M." "A refusal returns its number only." Here it is minus that number, so that no value is taken for a refusal.
 abbrev pub status : {A : Type 0} → (A → ℕ) → Outcome A → ℤ

@@ -1,6 +1,6 @@
 // Words of the C interface for a flag and for a frame that may be missing.
 
-use evidence::frames::Nearest;
+use frames::list::Nearest;
 ghost use mathlib.Core.Path.{_≡_};
 ghost use Prim.Native.Nat.{_≤_};
 ghost use Rattle.tikuwero.specs.Status.{flag, frameOf};

@@ -1,6 +1,6 @@
 -- Each answer has its number, and the rate is stored where there is one.
 use mathlib.Core.Path.{ap}
-use Rattle.evidence.specs.Rate.{outcome}
+use Rattle.rate.specs.Rate.{outcome}
 use Rattle.tikuwero.specs.Status.{status, stored}
 use Rattle.tikuwero.proofs.Given.{given}
 use borrow.Author.Needs.{needs}

@@ -4,7 +4,7 @@ use native.Mathlib.Omega.{arith}
 use lib.ListN.{length}
 use mir.Syntax.{w32}
 use mir.Facts.{toZ-pos}
-use Rattle.evidence.specs.Spans.{outcome}
+use Rattle.spans.specs.Spans.{outcome}
 use Rattle.tikuwero.proofs.Given.{given, spans-call}
 use Rattle.tikuwero.proofs.Limits.{spans-within}
 use borrow.Author.Needs.{needs}

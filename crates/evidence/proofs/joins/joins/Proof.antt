@@ -3,8 +3,8 @@ use mathlib.Core.Path.{ap₂}
 use mathlib.Core.Bool.{Bool}
 use borrow.Author.Needs.{needs}
 use Rattle.evidence.specs.Joins.{Edges, joinsOf}
-use Rattle.evidence.specs.Outcome.{Outcome, accepted}
-use Rattle.evidence.proofs.Checks.{taken, passed}
+use Rattle.frames.specs.Outcome.{Outcome, accepted}
+use Rattle.frames.proofs.Checks.{taken, passed}
 use Rattle.evidence.proofs.joins.joins.Statement.{statement}
 use Rattle.evidence.proofs.joins.joins.Tie as tie
 

@@ -3,8 +3,8 @@ use Prim.Native.Nat.{_≤_, _-_}
 use mathlib.Core.Path.{_≡_, refl, sym, _∙_}
 use native.Mathlib.Omega.{arith}
 use lib.ListN.{length, drop}
-use Rattle.evidence.specs.Outcome.{anyAbove}
-use Rattle.evidence.proofs.Checks.{any-found, any-more, any-end}
+use Rattle.frames.specs.Outcome.{anyAbove}
+use Rattle.frames.proofs.Checks.{any-found, any-more, any-end}
 use Rattle.evidence.proofs.masks.unfit.Statement.{statement}
 use Rattle.evidence.proofs.masks.unfit.Tie as tie
 

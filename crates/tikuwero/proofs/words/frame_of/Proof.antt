@@ -2,7 +2,7 @@
 use mathlib.Core.Bool.{Bool, cond}
 use mathlib.Core.Path.{sym, ap}
 use borrow.Author.Tests.{eq-eqb, ne-eqb}
-use Rattle.evidence.specs.declared.frames.Nearest.the-variants.{None, At}
+use Rattle.frames.specs.declared.list.Nearest.the-variants.{None, At}
 use Rattle.tikuwero.specs.Status.{noFrame}
 use Rattle.tikuwero.proofs.words.frame_of.Statement.{statement}
 use Rattle.tikuwero.proofs.words.frame_of.Tie as tie

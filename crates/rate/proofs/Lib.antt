@@ -1,0 +1,6 @@
+-- Laws of sorted frames, their gaps and the median.
+mod Sorting
+mod Gaps
+pub mod Sorted
+pub mod Places
+pub mod Examples

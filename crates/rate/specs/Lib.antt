@@ -1,0 +1,2 @@
+-- The definitions of this layer, from document 01, "Spans, marks and order".
+pub mod Rate
