@@ -1,5 +1,5 @@
 -- The laws of entries: how long their words are, where one more goes, and that the ranking is the one document 01 asks for.
-mod Stores
+mod UnitStores
 mod Places
 pub mod EntryWords
 pub mod Insertion

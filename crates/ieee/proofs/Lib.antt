@@ -1,5 +1,4 @@
 -- The laws of IEEE 754's order and operations, for any format; what narrowing and the total order rest on; worked examples.
-mod Tests
 pub mod Value
 pub mod Order
 pub mod Rounding

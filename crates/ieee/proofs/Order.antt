@@ -14,7 +14,7 @@ use lib.Ieee.Fits.{and-i, and-l, and-r, eq→eqb}
 use lib.Ieee.Scale.{finite}
 use lib.Ieee.Positive.{den-pos}
 use Rattle.ieee.specs.Value.{one, mag, over, under, Real}
-use Rattle.ieee.proofs.Tests.{either, or-l, or-r}
+use Rattle.laws.proofs.Tests.{either, either-left, either-right}
 use Rattle.ieee.proofs.Value.{one-pos, exact}
 
 -- ---- the order of ±a and ±b
@@ -119,7 +119,7 @@ pub le-iff : {f : Format} {x y : Float} → Real f x → Real f y → T (le x y)
 unfolding le
 le-iff {f} {x} {y} p q = (
   λ h. elim (either (lt x y) (eq x y) h) [ inl l ↦ le-of-lt (lt-iff p q .0 l) | inr e ↦ le-of-eq (eq-iff p q .0 e) ],
-  λ h. elim (eq-or-lt-of-le h) [ inl e ↦ or-r (lt x y) (eq x y) (eq-iff p q .1 e) | inr l ↦ or-l (lt x y) (eq x y) (lt-iff p q .1 l) ],
+  λ h. elim (eq-or-lt-of-le h) [ inl e ↦ either-right (lt x y) (eq x y) (eq-iff p q .1 e) | inr l ↦ either-left (lt x y) (eq x y) (lt-iff p q .1 l) ],
 )
 
 -- ---- what follows from the numbers alone

@@ -16,7 +16,7 @@ use lib.Ieee.Exact.{HasValue, odd-sign}
 use lib.Ieee.Scale.{finite}
 use Rattle.ieee.specs.Value.{one, mag, over, under, Real}
 use Rattle.ieee.specs.Range.{between, within, RangeTest}
-use Rattle.ieee.proofs.Tests.{either, or-l, or-r, same-test}
+use Rattle.laws.proofs.Tests.{either, either-left, either-right, same-test}
 use Rattle.ieee.proofs.Value.{value-finite, value-mag, value-over, value-under, neg-real, neg-over, neg-under}
 use Rattle.ieee.proofs.Order.{le-iff}
 use Rattle.ieee.proofs.Magnitude.{between-finite}
@@ -204,8 +204,8 @@ up-to-zero s r k = same-test (eqb r 0 || (s && leb r k)) (cond s (leb r k) (leb 
     into false t = elim (either (eqb r 0) false t) [ inl z ↦ le→leb r 0 (omega (arith, eqb→eq r 0 z)) | inr l ↦ absurd l ]
 
     out : (s : Bool) → T (cond s (leb r k) (leb r 0)) → T (eqb r 0 || (s && leb r k))
-    out true t = or-r (eqb r 0) (leb r k) t
-    out false t = or-l (eqb r 0) false (eq→eqb {a = r} {b = 0} (le-zero (leb→le r 0 t)))
+    out true t = either-right (eqb r 0) (leb r k) t
+    out false t = either-left (eqb r 0) false (eq→eqb {a = r} {b = 0} (le-zero (leb→le r 0 t)))
 
 module _ (f : Format) (k : ℕ) (l : k < ones f * hid f) (b : ℕ) where
   pub pattern-within : leb (b % top f) k ≡ within (ofBits f k) (ofBits f b)

@@ -8,10 +8,11 @@ use native.Mathlib.Nat.{le-refl, le-of-eq, le-trans, zero-add}
 use native.Mathlib.Omega.{arith}
 use lib.Dec.{T, leb, ltb, leb→le, le→leb, ltb→lt, lt→ltb, nltb→le}
 use lib.ListN.{length}
+use lib.Ieee.Fits.{and-i, and-l, and-r}
 use Rattle.paths.specs.Frames.{within}
 use Rattle.paths.specs.Anchors.{Anchor, select, numbered, keptIn, heldIn}
 use borrow.Author.Tests.{le-leb, lt-leb, lt-ltb, le-ltb}
-use Rattle.paths.proofs.Tests.{by-test, both, left-half, right-half, same-test, and-same}
+use Rattle.laws.proofs.Tests.{by-test, same-test, and-same}
 
 -- ---- `select`
 
@@ -106,9 +107,9 @@ pub heldIn-more : (anchors : List Anchor) (from : ℕ) {to further : ℕ} → to
 unfolding heldIn
 heldIn-more anchors from {to} {further} h =
     select-more (λ anchor. leb from (anchor .frame) && ltb (anchor .frame) to) (λ anchor. leb from (anchor .frame) && ltb (anchor .frame) further)
-    (λ anchor t. both (leb from (anchor .frame)) (ltb (anchor .frame) further)
-    (left-half (leb from (anchor .frame)) (ltb (anchor .frame) to) t)
-    (let below : anchor .frame < to = ltb→lt (anchor .frame) to (right-half (leb from (anchor .frame)) (ltb (anchor .frame) to) t) in
+    (λ anchor t. and-i (leb from (anchor .frame)) (ltb (anchor .frame) further)
+    (and-l (leb from (anchor .frame)) (ltb (anchor .frame) to) t)
+    (let below : anchor .frame < to = ltb→lt (anchor .frame) to (and-r (leb from (anchor .frame)) (ltb (anchor .frame) to) t) in
     lt→ltb (anchor .frame) further (omega arith)))
     anchors
 
@@ -154,7 +155,7 @@ heldIn-clamped mask row frames from to =
     alike : (anchor : Anchor) → inMask anchor && clamped anchor ≡ inMask anchor && plain anchor
     alike anchor =
         and-same (inMask anchor) λ t.
-        let below : anchor .frame < length mask = ltb→lt (anchor .frame) (length mask) (left-half (ltb (anchor .frame) (length mask)) _ t) in
+        let below : anchor .frame < length mask = ltb→lt (anchor .frame) (length mask) (and-l (ltb (anchor .frame) (length mask)) _ t) in
         ap₂ _&&_
         (same-test (leb (min from (length mask)) (anchor .frame)) (leb from (anchor .frame))
         (λ s. let a = leb→le (min from (length mask)) (anchor .frame) s in le→leb from (anchor .frame) (omega arith))

@@ -8,6 +8,7 @@ use Prim.Native.Nat.{ℕ}
 use lib.Dec.{T, T-not}
 use lib.ListN.{length}
 use lib.Ieee.{Float, eq}
+use lib.Ieee.Fits.{and-i, and-l, and-r}
 use Rattle.phrase.specs.Phrase.{Phrase}
 use Rattle.paths.specs.declared.passes.Pass.{Pass}
 use Rattle.paths.specs.Problem.{Problem}
@@ -18,7 +19,6 @@ use Rattle.paths.specs.Demand.{Answer, found, none, unvoiced, Admits, Ad
 use Rattle.paths.specs.Search.{Rule, orElse, searchBy}
 use Rattle.paths.specs.Finite.{Finite}
 use Rattle.paths.proofs.Optimal.{best-sums-equal}
-use Rattle.paths.proofs.Tests.{both, left-half, right-half}
 
 -- ---- the demand leaves one answer
 
@@ -125,8 +125,8 @@ module _ (rule : Rule) (phrase : Phrase) (columns : List ℕ) where
     where
       all-searched : T (speaks (phrase .speech) && hasNucleus phrase) → {answer : Answer} → Walked (inOrder phrase) answer → Demanded phrase columns answer
       all-searched t (first-found first best) = a-path (record {
-        speech = left-half (speaks (phrase .speech)) (hasNucleus phrase) t;
-        nucleus = right-half (speaks (phrase .speech)) (hasNucleus phrase) t;
+        speech = and-l (speaks (phrase .speech)) (hasNucleus phrase) t;
+        nucleus = and-r (speaks (phrase .speech)) (hasNucleus phrase) t;
         first = first;
         best = best;
         summed = refl;
@@ -136,4 +136,4 @@ module _ (rule : Rule) (phrase : Phrase) (columns : List ℕ) where
       go : (b : Bool) → (T b → T (speaks (phrase .speech) && hasNucleus phrase)) → (T (speaks (phrase .speech) && hasNucleus phrase) → T b)
           → Demanded phrase columns (searchBy rule phrase columns (cond b (inOrder phrase) []))
       go true t back = all-searched (t tt) (walked sound)
-      go false t back = word (λ nucleus speech. absurd (back (both (speaks (phrase .speech)) (hasNucleus phrase) speech nucleus)))
+      go false t back = word (λ nucleus speech. absurd (back (and-i (speaks (phrase .speech)) (hasNucleus phrase) speech nucleus)))

@@ -1,5 +1,4 @@
 -- What is proved of layered systems in general, of paths and the cell rule, and of the problems of a phrase.
-mod Tests
 pub mod Cells
 pub mod Tables
 pub mod BestRoutes

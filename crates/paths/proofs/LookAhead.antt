@@ -18,7 +18,7 @@ use Rattle.paths.specs.Anchors.{Anchor, select, numbered, keptIn, kept, 
 use Rattle.paths.specs.Units.{longestUnit, fitsUnit, mayHold, admitsUnit}
 use Rattle.paths.specs.StageProblem.{scoreOf, boundary, problemOf}
 use Rattle.paths.specs.LookAhead.{ahead, frameOr, rowOr, firstAhead, secondAhead, rowAhead, takenIn}
-use Rattle.paths.proofs.Tests.{by-test}
+use Rattle.laws.proofs.Tests.{by-test}
 use Rattle.paths.proofs.Frames.{increasing-le}
 use Rattle.paths.proofs.Anchors.{select-select, heldIn-more}
 

@@ -4,8 +4,9 @@ use native.Mathlib.Omega.{arith}
 use mathlib.Core.Path.{_≡_, refl, sym, ap, subst}
 use mathlib.Core.Bool.{Bool, true, false, cond, not, _&&_}
 use lib.Dec.{T, leb, ltb, leb→le, le→leb, ltb→lt, lt→ltb, nltb→le}
+use lib.Ieee.Fits.{and-i, and-l, and-r}
 use Rattle.paths.specs.Problem.{Problem}
-use Rattle.paths.proofs.Tests.{by-test, both, left-half, right-half}
+use Rattle.laws.proofs.Tests.{by-test}
 use Rattle.paths.specs.System.{Way, Ways, none, _then_, fresh, after, In, last, earlier, Once, once-none, once-then, Layered}
 use Rattle.paths.specs.PathSystem.{State, on, done, Move, byGap, byUnit, stop, opens, allows, leads, unitWays, stopWays, waysIn, waysOf, pathSystem}
 
@@ -129,14 +130,14 @@ module _ (q : Problem) (k : ℕ) where
   unfolding waysOf
   arrives (on s j) =
       guarded (leb s k && ltb j (q .size)) (waysIn q s j)
-      (λ t. arrives-on s j (leb→le s k (left-half (leb s k) (ltb j (q .size)) t)) (ltb→lt j (q .size) (right-half (leb s k) (ltb j (q .size)) t)))
+      (λ t. arrives-on s j (leb→le s k (and-l (leb s k) (ltb j (q .size)) t)) (ltb→lt j (q .size) (and-r (leb s k) (ltb j (q .size)) t)))
   arrives (done s) {w} = guarded (leb s k) (stopWays s (q .size)) (λ t i. go (leb→le s k t) (stop-ways s (q .size) i))
     where
       go : {w : Way State Move} → s ≤ k → StopBelow s (q .size) w → Arrives q k (done s) w
       go h (stop-below l) = by-stop h l
 
   pub on-guard : (s j : ℕ) → s ≤ k → j < q .size → T (leb s k && ltb j (q .size))
-  on-guard s j a b = both (leb s k) (ltb j (q .size)) (le→leb s k a) (lt→ltb j (q .size) b)
+  on-guard s j a b = and-i (leb s k) (ltb j (q .size)) (le→leb s k a) (lt→ltb j (q .size) b)
 
   gap-last : (s j : ℕ) → In (after (on s j) byGap) (waysIn q s (suc j))
   unfolding waysIn

@@ -7,6 +7,7 @@ use native.Mathlib.Omega.{arith}
 use lib.Dec.{T, leb, leb→le}
 use lib.ListN.{length, getD}
 use lib.Ieee.{Float, binary64, prec, mul}
+use lib.Ieee.Fits.{and-l, and-r}
 use Rattle.ieee.specs.Value.{Within}
 use Rattle.ieee.proofs.Magnitude.{add-within, sub-within, mul-within, neg-within, weaken}
 use Rattle.phrase.specs.Phrase.{Phrase, Stage}
@@ -16,7 +17,6 @@ use Rattle.paths.specs.Anchors.{Anchor, select, numbered, keptIn, kept, 
 use Rattle.paths.specs.Units.{shortestUnit, longestUnit, fitsUnit, mayHold, admitsUnit}
 use Rattle.paths.specs.StageProblem.{cost, scoreOf, unitValueOf, boundary, problemOf}
 use Rattle.paths.specs.Bounded.{Figures, Ranges, fillerBound, stepBound, Room, Bounded}
-use Rattle.paths.proofs.Tests.{left-half, right-half}
 use Rattle.paths.proofs.Frames.{speechIn-le}
 use Rattle.paths.proofs.Anchors.{keptIn-le, heldIn-le}
 
@@ -75,10 +75,10 @@ module _ {most : Ranges} {phrase : Phrase} {stage : Stage} {columns : List ℕ} 
       → Within binary64 (unitValueOf phrase stage (getD columns unit 0) from to) (most .score + most .duration)
   unfolding unitValueOf admitsUnit
   unit-within strictness unit from to some ok =
-      let long = left-half (fitsUnit (to - from)) (mayHold strictness (length (heldIn (kept phrase stage) from to))) ok in
+      let long = and-l (fitsUnit (to - from)) (mayHold strictness (length (heldIn (kept phrase stage) from to))) ok in
       add-within (score-within unit (rows-held (phrase .mask) (stage .firstRow) (stage .anchors) from to))
-      (bounded .durations (to - from) (leb→le shortestUnit (to - from) (left-half (leb shortestUnit (to - from)) (leb (to - from) longestUnit) long))
-      (leb→le (to - from) longestUnit (right-half (leb shortestUnit (to - from)) (leb (to - from) longestUnit) long)))
+      (bounded .durations (to - from) (leb→le shortestUnit (to - from) (and-l (leb shortestUnit (to - from)) (leb (to - from) longestUnit) long))
+      (leb→le (to - from) longestUnit (and-r (leb shortestUnit (to - from)) (leb (to - from) longestUnit) long)))
       (omega (arith, room .sums, mul-le-mul-right (stepBound most) some))
 
   pub phrase-figures : (strictness : Strictness) → Figures (problemOf phrase stage strictness columns) (fillerBound most) (stepBound most)

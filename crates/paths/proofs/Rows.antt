@@ -5,6 +5,7 @@ use mathlib.Core.Path.{_≡_, refl, sym, ap, ap₂, fun-ext, _∙_}
 use mathlib.Core.Bool.{Bool, true, false, cond, _&&_}
 use lib.Dec.{T, leb, ltb, leb→le, ltb→lt}
 use lib.Ieee.{lt}
+use lib.Ieee.Fits.{and-l, and-r}
 use Rattle.paths.specs.Problem.{Problem}
 use Rattle.paths.specs.Path.{Path, begin, gap, unit, sum}
 use Rattle.paths.specs.Cell.{Cell, held, keep, best, carry, only}
@@ -16,7 +17,6 @@ use Rattle.paths.proofs.Cells.{keep-empty, carry-carry, only-true, carr
 use Rattle.paths.proofs.Tables.{only-table, table-is}
 use Rattle.paths.proofs.PathRoutes.{route-value, ended-value}
 use Rattle.paths.proofs.PathWays.{layered, on-guard}
-use Rattle.paths.proofs.Tests.{left-half, right-half}
 
 -- The cells within the problem and the count, as routes.
 unfoldable pub cells : Problem → ℕ → State → Cell (Route State Move)
@@ -100,7 +100,7 @@ module _ (q : Problem) (k : ℕ) where
   unfolding Table cells waysOf chosenPath brought-all bestRoutes gather carry only
   rows-table (on s j) =
       go (leb s k && ltb j (q .size))
-      (λ t. row-brings s j (leb→le s k (left-half (leb s k) (ltb j (q .size)) t)) (ltb→lt j (q .size) (right-half (leb s k) (ltb j (q .size)) t)))
+      (λ t. row-brings s j (leb→le s k (and-l (leb s k) (ltb j (q .size)) t)) (ltb→lt j (q .size) (and-r (leb s k) (ltb j (q .size)) t)))
     where
       go :
           (t : Bool) → (T t → carry route (rows q (paths q) s j) ≡ brought-all (on s j) (waysIn q s j)) →
