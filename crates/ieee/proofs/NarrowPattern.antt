@@ -5,7 +5,7 @@ use mathlib.Core.Path.{_≡_, refl, sym, ap, _∙_, subst}
 use mathlib.Core.Logic.{_⊎_, inl, inr}
 use mathlib.Core.Bool.{Bool, true, false, not, cond}
 use Prim.Native.Nat.{ℕ, zero, suc, _+_, _-_, _*_, _/_, _%_, _^_, _≤_, _<_, min, compare}
-use native.Mathlib.Nat.{le-trans, le-of-eq, le-antisymm, lt-of-lt-of-le, lt-of-le-of-lt, lt-of-not-le, lt-irrefl, eq-or-lt-of-le, add-assoc, mul-one, mul-le-mul-right, mul-div-cancel, div-div-eq-div-mul, le-div-iff-mul-le, le-of-mul-le-mul-right, min-eq-left, min-eq-right, two-pow-succ, suc-mul, add-mul, le-of-suc-le-suc}
+use native.Mathlib.Nat.{le-trans, le-of-eq, le-antisymm, lt-of-lt-of-le, lt-of-le-of-lt, lt-of-not-le, lt-irrefl, eq-or-lt-of-le, add-assoc, mul-one, mul-le-mul-right, mul-div-cancel, div-div-eq-div-mul, le-div-iff-mul-le, le-of-mul-le-mul-right, min-eq-left, min-eq-right, two-pow-succ, suc-mul, add-mul}
 use native.Mathlib.Omega.{arith}
 use lib.Dec.{T, ltb, ltb→lt, nltb→le}
 use lib.Pow.{pow-add, pow-pos, pow-mono, pow-lt, shl-lt}
@@ -16,6 +16,7 @@ use lib.Ieee.Exact.{HasValue, odd-sign}
 use lib.Ieee.Nearest.{nearest-ge}
 use lib.Ieee.Order.{drop, kept}
 use lib.Ieee.Scale.{overflow}
+use Rattle.laws.proofs.Numbers.{le-of-not-lt}
 
 -- ---- powers of two
 pow-lt-back : (i p : ℕ) → 2 ^ i < 2 ^ p → i < p
@@ -120,7 +121,7 @@ module _ (p o q k : ℕ) (P : 0 < p) (O : 2 < o) (le : q ≤ 2 ^ p) (lead : 0 < 
       at-most = le-trans (mul-le-mul-right (2 ^ k) le) (le-of-eq (sym (pow-add 2 p k)))
 
       reaches : o - 2 ≤ k
-      reaches = le-of-suc-le-suc (lt-of-not-le (λ (g : suc k ≤ o - 2). lt-irrefl (2 ^ (p + k)) (lt-of-lt-of-le (pow-lt (omega arith)) (le-trans h at-most))))
+      reaches = le-of-not-lt (λ (g : k < o - 2). lt-irrefl (2 ^ (p + k)) (lt-of-lt-of-le (pow-lt (omega arith)) (le-trans h at-most)))
 
       go : (o - 2 ≡ k) ⊎ (o - 2 < k) → o * 2 ^ (p - 1) ≤ k * 2 ^ (p - 1) + q
       go (inl e) =
@@ -135,7 +136,7 @@ module _ (p o q k : ℕ) (P : 0 < p) (O : 2 < o) (le : q ≤ 2 ^ p) (lead : 0 < 
 unfoldable pub pattern : Format → ℕ → ℕ → ℕ
 pattern f num den = min (drop (prec f) (num * 2 ^ low f) den * hid f + kept (prec f) (num * 2 ^ low f) den) (ones f * hid f)
 
-toBits-inf : (f : Format) (s : Bool) → toBits f (inf s) ≡ cond s (top f) 0 + ones f * hid f
+pub toBits-inf : (f : Format) (s : Bool) → toBits f (inf s) ≡ cond s (top f) 0 + ones f * hid f
 unfolding toBits
 toBits-inf f s = refl
 

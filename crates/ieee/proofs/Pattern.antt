@@ -30,7 +30,7 @@ hid-pos f = pow-pos (prec f - 1)
 not-ones : (f : Format) (x : ℕ) → x < ones f → T (not (eqb x (ones f)))
 not-ones f x l = not-T (eqb x (ones f)) (λ t. omega (arith, eqb→eq x (ones f) t))
 
-fields-value : (f : Format) (s : Bool) (x t : ℕ) → x < ones f → HasValue (ofFields f s x t) s (weigh (hid f) x t) (one f)
+pub fields-value : (f : Format) (s : Bool) (x t : ℕ) → x < ones f → HasValue (ofFields f s x t) s (weigh (hid f) x t) (one f)
 unfolding ofFields weigh one
 fields-value f s zero t l = subst (λ (n : ℕ). HasValue (odd (prec f) s t 0 (low f)) s n (2 ^ low f)) (mul-one t) (odd-sign (prec f) s t 0 (low f))
 fields-value f s (suc x) t l =
@@ -131,12 +131,6 @@ module _ (f : Format) (k : ℕ) (l : k < ones f * hid f) where
   pattern-le b h =
       subst (λ (m : ℕ). (b % top f ≤ k) ↔ (m ≤ mag f (ofBits f k))) (sym (pattern-mag f b h))
       (subst (λ (m : ℕ). (b % top f ≤ k) ↔ (weight (hid f) (b % top f) ≤ m)) (sym limit-mag) (weight-le (hid f) (b % top f) k (hid-pos f)))
-
-  -- no pattern up to the limit is a NaN's, so that it may be read as a float
-  pub pattern-no-nan : (b : ℕ) → T (leb (b % top f) k) → nanBits f b ≡ false
-  pattern-no-nan b t =
-      nanBits-above f b
-      ∙ is-false (ltb (ones f * hid f) (b % top f)) (le→nltb (ones f * hid f) (b % top f) (omega (arith, leb→le (b % top f) k t)))
 
 -- ---- range tests on patterns
 

@@ -2,7 +2,7 @@
 use Prim.Native.Nat.{ℕ, _+_, _*_, _≤_, _<_}
 use mathlib.Core.Bool.{false}
 use mathlib.Core.Path.{_≡_, sym, ap, subst, _∙_}
-use native.Mathlib.Nat.{suc-mul, mul-le-mul-right}
+use native.Mathlib.Nat.{lt-of-not-le, le-of-suc-le-suc, suc-mul, mul-le-mul-right}
 use native.Mathlib.Numerals.{add-one}
 use native.Mathlib.Omega.{arith}
 use lib.Dec.{eqb, ltb, ltb→lt, nltb→le}
@@ -12,6 +12,9 @@ use Rattle.laws.proofs.Tests.{by-test}
 -- one number is below another, or not
 pub by-order {ℓ} : {A : Type ℓ} (m n : ℕ) → (m < n → A) → (n ≤ m → A) → A
 by-order m n below above = by-test (ltb m n) (λ t. below (ltb→lt m n t)) (λ t. above (nltb→le m n t))
+
+pub le-of-not-lt : {m n : ℕ} → (m < n → ⊥) → n ≤ m
+le-of-not-lt h = le-of-suc-le-suc (lt-of-not-le h)
 
 pub not-zero : (n : ℕ) → eqb n 0 ≡ false → 0 < n
 not-zero n e = let ne : n ≡ 0 → ⊥ = eqb-false n 0 e in omega arith
