@@ -5,7 +5,7 @@ use native.Mathlib.Omega.{arith}
 use mathlib.Core.Path.{_≡_, refl, sym, ap, subst, _∙_}
 use mathlib.Core.List.{List, [], _∷_, _++_, map}
 use native.Mathlib.Nat.{zero-add, suc-add}
-use lib.ListN.{length, length-append}
+use lib.ListN.{length, length-append, length-map}
 use Rattle.paths.specs.System.{System, Route, start, step, Way, fresh, after, Ways, none, _then_, In, last, earlier, Once, once-then, Ends, lastWay, Layered}
 use Rattle.paths.specs.Table.{gather, bring, Table, allRoutes, routeCount, At, at-first, at-next}
 use Rattle.paths.proofs.Tables.{start-ends, step-ends, Invariant, Reaching, everywhere, reached, only-table, image}
@@ -48,10 +48,6 @@ map-at {b = b} f (a ∷ s) (at-next i) = further (map-at f s i)
   where
     further : {n : ℕ} → Image f b s n → Image f b (a ∷ s) (suc n)
     further (image-of e i) = image-of e (at-next i)
-
-length-map : {A B : Type 0} (f : A → B) (s : List A) → length (map f s) ≡ length s
-length-map f [] = refl
-length-map f (a ∷ s) = ap suc (length-map f s)
 
 -- a route's place, whichever it is
 abbrev Listed : {X E : Type 0} → Route X E → List (Route X E) → Type 0
@@ -180,7 +176,7 @@ module _ {X E W : Type 0} (S : System X E W) (layered : Layered S) (t : X → Li
   unfolding allRoutes routeCount
   counts-table =
       image S allRoutes routeCount t length
-      record { nothing = refl; join = length-append; begins = λ x. refl; along = λ y e. length-map (λ r. step r e) (t y) } is
+      record { nothing = refl; join = length-append; begins = λ x. refl; along = λ y e. length-map (t y) (λ r. step r e) } is
 
   -- the number of routes is the length of their list
   pub counts-length : (counts : X → ℕ) → Table S routeCount counts → (x : X) → counts x ≡ length (t x)
