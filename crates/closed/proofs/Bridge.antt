@@ -16,7 +16,8 @@ use Rattle.paths.specs.Units.{shortestUnit, longestUnit, fitsUnit}
 use Rattle.paths.specs.LookAhead.{ahead, frameOr, rowOr, firstAhead, secondAhead, rowAhead}
 use Rattle.paths.specs.StageProblem.{unitValueOf, boundary, problemOf}
 use Rattle.paths.proofs.Frames.{increasing-le}
-use Rattle.paths.proofs.LookAhead.{Rising, kept-rising, holds-none, holds-more, admits-ahead, score-ahead}
+use Rattle.paths.proofs.Rising.{Rising, kept-rising}
+use Rattle.paths.proofs.LookAhead.{holds-none, holds-more, admits-ahead, score-ahead}
 use Rattle.stages.specs.Room.{most}
 use Rattle.stages.specs.declared.tables.StageTables.{StageTables}
 use Rattle.stages.specs.Tables.{Tabled, beyond}

@@ -7,7 +7,9 @@ pub mod Monotone
 pub mod Magnitude
 pub mod Weight
 pub mod Pattern
+pub mod PatternRange
 mod NarrowNearest
+mod Coded
 mod NarrowPattern
 mod NarrowShift
 mod NarrowFields

@@ -1,6 +1,6 @@
 -- Values without their signs are in the order of their patterns, in any format: those of finite values are ordered as their
 -- magnitudes are (proofs/Pattern.antt), and an infinity's lies above them all.
-use mathlib.Core.Path.{_≡_, refl, sym, ap, _∙_, subst}
+use mathlib.Core.Path.{_≡_, sym, ap, _∙_, subst}
 use mathlib.Core.Logic.{_↔_}
 use mathlib.Core.Bool.{Bool, true, false, not, cond}
 use Prim.Native.Nat.{ℕ, zero, suc, _+_, _-_, _*_, _/_, _%_, _^_, _≤_, _<_}

@@ -1,5 +1,5 @@
 -- Every value and every sum of an admitted path is finite: each figure has a whole-number bound, and they add up. Assumes nothing.
-use Prim.Native.Nat.{ℕ, suc, _+_, _*_, _^_, _≤_, _<_}
+use Prim.Native.Nat.{ℕ, suc, _+_, _*_, _^_, _≤_}
 use native.Mathlib.Nat.{mul-le-mul-right, suc-mul}
 use native.Mathlib.Omega.{arith}
 use lib.Ieee.{binary64, prec}

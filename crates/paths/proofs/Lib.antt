@@ -3,7 +3,9 @@ pub mod Cells
 pub mod Tables
 pub mod BestRoutes
 pub mod NotedRoutes
+mod ListPlaces
 pub mod AllRoutes
+mod WaysBelow
 pub mod PathWays
 pub mod PathRoutes
 pub mod Rows
@@ -14,7 +16,9 @@ pub mod Marks
 pub mod PathUnits
 pub mod Examples
 pub mod Frames
+mod Select
 pub mod Anchors
+pub mod Rising
 pub mod LookAhead
 pub mod Demanded
 pub mod Finite

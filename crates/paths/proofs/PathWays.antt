@@ -1,14 +1,14 @@
 -- The path problem is a layered system: the ways into each of its states are exactly those that paths come by, each once.
 use Prim.Native.Nat.{ℕ, zero, suc, _≤_, _<_, zero-le}
 use native.Mathlib.Omega.{arith}
-use mathlib.Core.Path.{_≡_, refl, sym, ap, subst}
-use mathlib.Core.Bool.{Bool, true, false, cond, not, _&&_}
+use mathlib.Core.Path.{_≡_, refl, sym, subst}
+use mathlib.Core.Bool.{Bool, true, false, cond, _&&_}
 use lib.Dec.{T, leb, ltb, leb→le, le→leb, ltb→lt, lt→ltb}
 use lib.Ieee.Fits.{and-i, and-l, and-r}
-use Rattle.laws.proofs.Numbers.{by-order}
 use Rattle.paths.specs.Problem.{Problem}
 use Rattle.paths.specs.System.{Way, Ways, none, _then_, fresh, after, In, last, earlier, Once, once-none, once-then, Layered}
-use Rattle.paths.specs.PathSystem.{State, on, done, Move, byGap, byUnit, stop, opens, allows, leads, waysBelow, unitWays, stopWays, waysIn, waysOf, pathSystem}
+use Rattle.paths.specs.PathSystem.{State, on, done, Move, byGap, byUnit, stop, opens, allows, leads, stopWays, waysIn, waysOf, pathSystem}
+use Rattle.paths.proofs.WaysBelow.{Below, below, ways-below, in-below, below-once}
 
 -- the ways into each state, as a rule
 pub data Arrives (q : Problem) (k : ℕ) : State → Way State Move → Type 0 where
@@ -16,54 +16,6 @@ pub data Arrives (q : Problem) (k : ℕ) : State → Way State Move → Type 0 w
   by-gap : {s j : ℕ} → s ≤ k → suc j < q .size → Arrives q k (on s (suc j)) (after (on s j) byGap)
   by-unit : {s i j : ℕ} → s < k → i < j → j < q .size → T (q .unitOk i j) → Arrives q k (on (suc s) j) (after (on s i) (byUnit j))
   by-stop : {s j : ℕ} → s ≤ k → j < q .size → Arrives q k (done s) (after (on s j) stop)
-
--- ---- ways from the boundaries below m
-
-data Below (ok : ℕ → Bool) (way : ℕ → Way State Move) (m : ℕ) : Way State Move → Type 0 where
-  below : {i : ℕ} → i < m → T (ok i) → Below ok way m (way i)
-
-module _ (ok : ℕ → Bool) (way : ℕ → Way State Move) where
-  wider : {m : ℕ} {w : Way State Move} → Below ok way m w → Below ok way (suc m) w
-  wider (below {i = i} l t) = below {i = i} (omega arith) t
-
-  ways-below : (m : ℕ) {w : Way State Move} → In w (waysBelow ok way m) → Below ok way m w
-  unfolding waysBelow
-  ways-below zero i = elim i [ ]
-  ways-below (suc m) {w} i = go (ok m) (λ t. t) (ways-below m {w = w}) i
-    where
-      go :
-          (b : Bool) → (T b → T (ok m)) → (In w (waysBelow ok way m) → Below ok way m w) →
-          In w (cond b (waysBelow ok way m then way m) (waysBelow ok way m)) → Below ok way (suc m) w
-      go true passes so-far (last e) = subst (Below ok way (suc m)) (sym e) (below {i = m} (omega arith) (passes tt))
-      go true passes so-far (earlier i) = wider (so-far i)
-      go false passes so-far i = wider (so-far i)
-
-  in-below : (m i : ℕ) → i < m → T (ok i) → In (way i) (waysBelow ok way m)
-  unfolding waysBelow
-  in-below zero i l t = absurd (omega arith)
-  in-below (suc m) i l t =
-      by-order i m (λ less. so-far (ok m) (in-below m i less t))
-      (λ more. let e : i ≡ m = omega arith in at (ok m) e (subst (λ z. T (ok z)) e t))
-    where
-      so-far : (b : Bool) → In (way i) (waysBelow ok way m) → In (way i) (cond b (waysBelow ok way m then way m) (waysBelow ok way m))
-      so-far true i = earlier i
-      so-far false i = i
-
-      at : (b : Bool) → i ≡ m → T b → In (way i) (cond b (waysBelow ok way m then way m) (waysBelow ok way m))
-      at true e t = last (ap way e)
-      at false e t = absurd t
-
-  below-once : ((i j : ℕ) → way i ≡ way j → i ≡ j) → (m : ℕ) → Once (waysBelow ok way m)
-  unfolding waysBelow
-  below-once differ zero = once-none
-  below-once differ (suc m) = go (ok m) (below-once differ m)
-    where
-      not-below : {w : Way State Move} → Below ok way m w → way m ≡ w → ⊥
-      not-below (below {i = i} l t) e = omega (arith, differ m i e)
-
-      go : (b : Bool) → Once (waysBelow ok way m) → Once (cond b (waysBelow ok way m then way m) (waysBelow ok way m))
-      go true once = once-then once (λ i. not-below (ways-below m i) refl)
-      go false once = once
 
 same-origin : {s i j : ℕ} {e : Move} → after (on s i) e ≡ after (on s j) e → i ≡ j
 same-origin h = cc
