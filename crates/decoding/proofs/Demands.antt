@@ -24,7 +24,7 @@ use Rattle.entries.specs.Placing.{Fit, All, Rankable}
 use Rattle.entries.specs.Ranking.{ranked, Ranked}
 use Rattle.entries.proofs.EntryWords.{length-allWords}
 use Rattle.entries.proofs.Ranks.{all-ranked, ranked-is}
-use Rattle.entries.proofs.RankedWords.{length-ranked}
+use Rattle.entries.proofs.RankedLength.{length-ranked}
 use Rattle.decoding.specs.EntryOf.{entryFor, entryBy, entryOf, entriesOf}
 use Rattle.decoding.specs.Contract.{Meets, MeetsEach, all-met, each-met}
 use Rattle.decoding.proofs.Bounded.{phrase-fit, bounded}

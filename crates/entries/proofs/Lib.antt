@@ -5,5 +5,5 @@ pub mod EntryWords
 pub mod Insertion
 pub mod Ranks
 pub mod RankUnique
-pub mod RankedWords
+pub mod RankedLength
 mod RankExamples

@@ -1,6 +1,6 @@
 -- Tests as facts: `T b` says that the test b passes. For both halves of `a && b` the library has `and-i`, `and-l` and `and-r`
 -- (`lib.Ieee.Fits`). Assumes nothing.
-use mathlib.Core.Bool.{Bool, true, false, not, _&&_, _||_}
+use mathlib.Core.Bool.{Bool, true, false, not, _&&_, _||_, cond}
 use mathlib.Core.Logic.{_⊎_, inl, inr}
 use mathlib.Core.Path.{_≡_, refl, sym, subst}
 use lib.Dec.{T}
@@ -13,6 +13,11 @@ passes e = subst T (sym e) tt
 pub by-test {ℓ} : {A : Type ℓ} (b : Bool) → (T b → A) → (T (not b) → A) → A
 by-test true pass fail = pass tt
 by-test false pass fail = fail tt
+
+-- what both branches of a choice have, the choice has
+pub by-choice {ℓ κ} : {A : Type ℓ} (P : A → Type κ) (b : Bool) {yes no : A} → (T b → P yes) → (T (not b) → P no) → P (cond b yes no)
+by-choice P true pass fail = pass tt
+by-choice P false pass fail = fail tt
 
 -- one of two tests passes
 pub either : (a b : Bool) → T (a || b) → T a ⊎ T b

@@ -1,5 +1,5 @@
 -- The figures of a stage's problem keep to whole-number bounds where those of the phrase do. Assumes nothing.
-use mathlib.Core.Bool.{Bool, true, false, cond}
+use mathlib.Core.Bool.{Bool}
 use mathlib.Core.List.{List, [], _∷_}
 use Prim.Native.Nat.{ℕ, suc, _+_, _-_, _*_, _^_, _≤_, _<_}
 use native.Mathlib.Nat.{le-trans, mul-le-mul-left, mul-le-mul-right}
@@ -8,6 +8,7 @@ use lib.Dec.{T, leb, leb→le}
 use lib.ListN.{length, getD}
 use lib.Ieee.{Float, binary64, prec, mul}
 use lib.Ieee.Fits.{and-l, and-r}
+use Rattle.laws.proofs.Tests.{by-choice}
 use Rattle.ieee.specs.Value.{Within}
 use Rattle.ieee.proofs.Magnitude.{add-within, sub-within, mul-within, neg-within, weaken}
 use Rattle.phrase.specs.Phrase.{Phrase, Stage}
@@ -30,11 +31,8 @@ data InRows (first n : ℕ) : List Anchor → Type 0 where
 rows-select : (test : Anchor → Bool) {first n : ℕ} {anchors : List Anchor} → InRows first n anchors → InRows first n (select test anchors)
 unfolding select
 rows-select test no-anchor = no-anchor
-rows-select test {first} {n} (an-anchor {anchor = anchor} {anchors = anchors} low high more) = go (test anchor) (rows-select test more)
-  where
-    go : (b : Bool) → InRows first n (select test anchors) → InRows first n (cond b (anchor ∷ select test anchors) (select test anchors))
-    go true rest = an-anchor low high rest
-    go false rest = rest
+rows-select test {first} {n} (an-anchor {anchor = anchor} low high more) =
+    by-choice (InRows first n) (test anchor) (λ t. an-anchor low high (rows-select test more)) (λ t. rows-select test more)
 
 rows-numbered : (first n row : ℕ) (frames : List ℕ) → first ≤ row → row + length frames ≤ first + n → InRows first n (numbered row frames)
 unfolding numbered

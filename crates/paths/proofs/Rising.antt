@@ -1,10 +1,11 @@
 -- Kept anchors stand in the order of their frames. Assumes nothing.
-use mathlib.Core.Bool.{Bool, true, false, cond}
+use mathlib.Core.Bool.{Bool}
 use mathlib.Core.List.{List, [], _∷_}
 use Prim.Native.Nat.{ℕ, suc, _-_, _≤_, _<_, suc-le-suc}
 use native.Mathlib.Nat.{le-trans}
 use native.Mathlib.Omega.{arith}
 use lib.ListN.{length, getD}
+use Rattle.laws.proofs.Tests.{by-choice}
 use Rattle.paths.specs.Frames.{Increasing, within}
 use Rattle.paths.specs.Anchors.{Anchor, select, numbered, keptIn}
 
@@ -20,11 +21,8 @@ rising-from h (and-then g r) = and-then (le-trans h g) r
 pub rising-select : (test : Anchor → Bool) {low : ℕ} {anchors : List Anchor} → Rising low anchors → Rising low (select test anchors)
 unfolding select
 rising-select test no-more = no-more
-rising-select test (and-then {low = low} {anchor = anchor} {anchors = anchors} h r) = go (test anchor) (rising-select test r)
-  where
-    go : (b : Bool) → Rising (suc (anchor .frame)) (select test anchors) → Rising low (cond b (anchor ∷ select test anchors) (select test anchors))
-    go true s = and-then h s
-    go false s = rising-from (omega arith) s
+rising-select test (and-then {low = low} {anchor = anchor} h r) =
+    by-choice (Rising low) (test anchor) (λ t. and-then h (rising-select test r)) (λ t. rising-from (omega arith) (rising-select test r))
 
 rising-numbered : (low row : ℕ) (frames : List ℕ) → (0 < length frames → low ≤ getD frames 0 0) → Increasing frames → Rising low (numbered row frames)
 unfolding numbered

@@ -7,17 +7,15 @@ use native.Mathlib.Nat.{le-refl}
 use native.Mathlib.Omega.{arith}
 use lib.Dec.{T}
 use lib.ListN.{length}
+use Rattle.laws.proofs.Tests.{by-choice}
 use Rattle.paths.specs.Anchors.{Anchor, select}
 
 pub select-le : (test : Anchor → Bool) (anchors : List Anchor) → length (select test anchors) ≤ length anchors
 unfolding select
 select-le test [] = le-refl 0
-select-le test (anchor ∷ anchors) = go (test anchor) (select-le test anchors)
-  where
-    go : (b : Bool) → length (select test anchors) ≤ length anchors
-        → length (cond b (anchor ∷ select test anchors) (select test anchors)) ≤ suc (length anchors)
-    go true h = omega arith
-    go false h = omega arith
+select-le test (anchor ∷ anchors) =
+    let rest = select-le test anchors in
+    by-choice (λ (l : List Anchor). length l ≤ suc (length anchors)) (test anchor) (λ t. omega arith) (λ t. omega arith)
 
 -- a test that passes more
 pub select-more : (test more : Anchor → Bool) → ((anchor : Anchor) → T (test anchor) → T (more anchor)) → (anchors : List Anchor)

@@ -4,6 +4,7 @@ use native.Mathlib.Omega.{arith}
 use mathlib.Core.Path.{_≡_, refl, sym, ap, subst}
 use mathlib.Core.Bool.{Bool, true, false, cond}
 use lib.Dec.{T}
+use Rattle.laws.proofs.Tests.{by-choice}
 use Rattle.laws.proofs.Numbers.{by-order}
 use Rattle.paths.specs.System.{Way, _then_, In, last, earlier, Once, once-none, once-then}
 use Rattle.paths.specs.PathSystem.{State, Move, waysBelow}
@@ -45,11 +46,8 @@ module _ (ok : ℕ → Bool) (way : ℕ → Way State Move) where
   pub below-once : ((i j : ℕ) → way i ≡ way j → i ≡ j) → (m : ℕ) → Once (waysBelow ok way m)
   unfolding waysBelow
   below-once differ zero = once-none
-  below-once differ (suc m) = go (ok m) (below-once differ m)
+  below-once differ (suc m) =
+      by-choice Once (ok m) (λ t. once-then (below-once differ m) (λ i. not-below (ways-below m i) refl)) (λ t. below-once differ m)
     where
       not-below : {w : Way State Move} → Below ok way m w → way m ≡ w → ⊥
       not-below (below {i = i} l t) e = omega (arith, differ m i e)
-
-      go : (b : Bool) → Once (waysBelow ok way m) → Once (cond b (waysBelow ok way m then way m) (waysBelow ok way m))
-      go true once = once-then once (λ i. not-below (ways-below m i) refl)
-      go false once = once
