@@ -4,3 +4,4 @@ pub mod Choices
 pub mod Numbers
 pub mod Lists
 pub mod Stores
+pub mod Listed
