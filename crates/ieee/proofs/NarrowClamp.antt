@@ -36,27 +36,21 @@ unfolding ofBits
 highest-is = refl
 
 module _ (v : Float) where
-  abbrev inside : Float
-  inside = cond (lt highest v) highest v
-
-  abbrev above-lowest : Float
-  above-lowest = cond (lt v lowest) lowest inside
-
   pub at-nan : isNan v ≡ true → lowest ≡ clamped v
   unfolding clamped
-  at-nan h = taken (isNan v) lowest above-lowest h
+  at-nan h = taken _ h
 
   pub at-lowest : isNan v ≡ false → lt v lowest ≡ true → lowest ≡ clamped v
   unfolding clamped
-  at-lowest h l = passed (isNan v) lowest above-lowest h (taken (lt v lowest) lowest inside l)
+  at-lowest h l = passed _ h (taken _ l)
 
   pub at-highest : isNan v ≡ false → lt v lowest ≡ false → lt highest v ≡ true → highest ≡ clamped v
   unfolding clamped
-  at-highest h l g = passed (isNan v) lowest above-lowest h (passed (lt v lowest) lowest inside l (taken (lt highest v) highest v g))
+  at-highest h l g = passed _ h (passed _ l (taken _ g))
 
   pub between : isNan v ≡ false → lt v lowest ≡ false → lt highest v ≡ false → v ≡ clamped v
   unfolding clamped
-  between h l g = passed (isNan v) lowest above-lowest h (passed (lt v lowest) lowest inside l (passed (lt highest v) highest v g refl))
+  between h l g = passed _ h (passed _ l (passed _ g refl))
 
 -- ---- finite, and 1,000,000 in size at most
 abbrev Small : Float → Type 0

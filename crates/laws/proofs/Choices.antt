@@ -42,10 +42,10 @@ and-fails true b e t = e
 and-fails false b e t = absurd (false≢true t)
 
 -- a chain of tests: one that passes decides, one that fails leaves the rest
-pub taken {ℓ} : {A : Type ℓ} (a : Bool) (x y : A) → a ≡ true → x ≡ cond a x y
-taken true x y e = refl
-taken false x y e = absurd (false≢true e)
+pub taken {ℓ} : {A : Type ℓ} {a : Bool} {x : A} (y : A) → a ≡ true → x ≡ cond a x y
+taken {a = true} y e = refl
+taken {a = false} y e = absurd (false≢true e)
 
-pub passed {ℓ} : {A : Type ℓ} (a : Bool) (x y : A) {z : A} → a ≡ false → z ≡ y → z ≡ cond a x y
-passed true x y e h = absurd (true≢false e)
-passed false x y e h = h
+pub passed {ℓ} : {A : Type ℓ} {a : Bool} (x : A) {y z : A} → a ≡ false → z ≡ y → z ≡ cond a x y
+passed {a = true} x e h = absurd (true≢false e)
+passed {a = false} x e h = h
