@@ -2,10 +2,10 @@
 use mathlib.Core.List.{List}
 use mathlib.Core.Path.{_≡_, refl, subst, _∙_}
 use Prim.Native.Nat.{ℕ, zero, suc, _+_, _*_, _≤_, _<_}
-use native.Mathlib.Nat.{mul-le-mul-right}
 use native.Mathlib.Omega.{arith}
 use lib.Ieee.{Float}
 use lib.ListN.{length, getD}
+use Rattle.laws.proofs.Numbers.{by-order, row-within}
 use Rattle.phrase.specs.Phrase.{Phrase}
 use Rattle.paths.specs.declared.passes.Strictness.{Strictness}
 use Rattle.paths.specs.Problem.{Problem}
@@ -14,15 +14,11 @@ use Rattle.paths.specs.CellRule.{rows}
 use Rattle.paths.specs.Marks.{marks}
 use Rattle.stages.specs.declared.tables.StageTables.{StageTables}
 use Rattle.rows.specs.Rows.{HoldsAt, Same}
-use Rattle.rows.proofs.Cells.{by-order, same-refl, same-trans, same-holds}
+use Rattle.rows.proofs.Cells.{same-refl, same-trans, same-holds}
 use Rattle.closed.specs.Filled.{rowAt, FilledFirst, FilledNext, NextRow}
 use Rattle.closed.specs.Searched.{ScoresOf, unitsWith, Agrees}
 use Rattle.closed.specs.Reported.{AllRows}
 use Rattle.closed.specs.Asked.{cellsFor, Unused}
-
--- a row fits below a later one
-rows-fit : (n : ℕ) {s r : ℕ} → s < r → s * n + n ≤ r * n
-rows-fit n {s} {r} h = omega (arith, mul-le-mul-right n h)
 
 module _ (phrase : Phrase) (columns : List ℕ) (strictness : Strictness) (t : StageTables) where
   -- rows up to that of s units are filled, the later ones unused, and all beyond as it was
@@ -64,7 +60,7 @@ module _ (phrase : Phrase) (columns : List ℕ) (strictness : Strictness) (t : S
 
   module _ {best₀ : List Float} {back₀ : List ℕ} {best : List Float} {back : List ℕ} {s : ℕ} (was : RowsTo best₀ back₀ best back s) (more : s < length columns) where
     pub next-fits : s * t .size + t .size + t .size ≤ cellsFor t columns
-    next-fits = omega (arith, rows-fit (t .size) more)
+    next-fits = omega (arith, row-within (t .size) more)
 
     module _ {best′ : List Float} {back′ : List ℕ} (b : length best′ ≡ length best) (m : length back′ ≡ length back) (scores : List Float)
         (given : ScoresOf phrase (t .row) (t .size) (getD columns s 0) scores)
@@ -93,4 +89,4 @@ module _ (phrase : Phrase) (columns : List ℕ) (strictness : Strictness) (t : S
           place-is j = omega arith
 
           in-row : (r j : ℕ) → r < suc s → j < t .size → rowAt (t .size) r j < s * t .size + t .size
-          in-row r j below l = omega (arith, rows-fit (t .size) below)
+          in-row r j below l = omega (arith, row-within (t .size) below)

@@ -8,6 +8,8 @@ use native.Mathlib.Omega.{arith}
 use lib.Dec.{T, leb, ltb, eqb, leb→le, ltb→lt}
 use lib.Ieee.{Float, binary64, add}
 use lib.ListN.{length, getD}
+use lib.Ieee.Fits.{and-l}
+use Rattle.laws.proofs.Numbers.{by-order}
 use Rattle.phrase.specs.Phrase.{Phrase, Stage}
 use Rattle.paths.specs.declared.passes.Strictness.{Strictness}
 use Rattle.paths.specs.Frames.{Increasing, within}
@@ -16,11 +18,11 @@ use Rattle.paths.specs.Units.{shortestUnit, longestUnit, fitsUnit}
 use Rattle.paths.specs.LookAhead.{ahead, frameOr, rowOr, firstAhead, secondAhead, rowAhead}
 use Rattle.paths.specs.StageProblem.{unitValueOf, boundary, problemOf}
 use Rattle.paths.proofs.Frames.{increasing-le}
-use Rattle.paths.proofs.LookAhead.{Rising, kept-rising, holds-none, holds-more, admits-ahead, score-ahead}
+use Rattle.paths.proofs.Rising.{Rising, kept-rising}
+use Rattle.paths.proofs.LookAhead.{holds-none, holds-more, admits-ahead, score-ahead}
 use Rattle.stages.specs.Room.{most}
 use Rattle.stages.specs.declared.tables.StageTables.{StageTables}
 use Rattle.stages.specs.Tables.{Tabled, beyond}
-use Rattle.rows.proofs.Cells.{by-order}
 use Rattle.closed.specs.Searched.{Agrees, Readable}
 
 -- ---- what holds of every anchor of a list
@@ -69,13 +71,9 @@ frame-below : {anchors : List Anchor} → Every (λ anchor. anchor .frame ≤ be
 frame-below none = le-refl beyond
 frame-below (more h rest) = h
 
-and-first : (a b : Bool) → T (a && b) → T a
-and-first true b h = tt
-and-first false b h = h
-
 within-below : (mask : List ℕ) (frame : ℕ) → T (within mask frame) → frame < length mask
 unfolding within
-within-below mask frame h = ltb→lt frame (length mask) (and-first (ltb frame (length mask)) (not (eqb (getD mask frame 0) 0)) h)
+within-below mask frame h = ltb→lt frame (length mask) (and-l (ltb frame (length mask)) (not (eqb (getD mask frame 0) 0)) h)
 
 fits-both : (frames : ℕ) → T (fitsUnit frames) → (shortestUnit ≤ frames) × (frames ≤ longestUnit)
 fits-both frames h = go (leb shortestUnit frames) (leb frames longestUnit) (leb→le shortestUnit frames) (leb→le frames longestUnit) h

@@ -7,6 +7,7 @@ use Prim.Native.Nat.{ℕ, _+_, _-_, _*_, _≤_, _<_}
 use native.Mathlib.Omega.{arith}
 use lib.Ieee.{Float, nan}
 use lib.ListN.{length, getD}
+use Rattle.laws.proofs.Numbers.{by-order}
 use Rattle.paths.specs.Problem.{Problem}
 use Rattle.paths.specs.Cell.{Cell}
 use Rattle.paths.specs.CellRule.{sweep}
@@ -15,7 +16,7 @@ use Rattle.paths.specs.Units.{fitsUnit, mayHold}
 use Rattle.paths.specs.LookAhead.{takenIn}
 use Rattle.rows.specs.Rows.{Row, HoldsAt, Same, first, next, unfilled, FirstFilled, Swept}
 use Rattle.rows.specs.Units.{UnitTables, frameAt, framesOf, gain, UnitsOf, NextFilled, UnitsFilled, arrivals}
-use Rattle.rows.proofs.Cells.{by-order, same-trans}
+use Rattle.rows.proofs.Cells.{same-trans}
 use Rattle.closed.specs.Filled.{rowAt, UnfilledAfter, NextRow}
 use Rattle.closed.proofs.Parts.{part, put, part-holds, put-holds, put-same-below, put-same}
 

@@ -6,9 +6,9 @@ use native.Mathlib.Omega.{arith}
 use lib.Ieee.{Float, binary64, nan, ofBits}
 use lib.ListN.{length, getD, drop, replicate, length-append, length-drop, length-replicate, getD-replicate, List·getD-append}
 use lib.Seq.{ext-getD, getD-drop, getD-append-add}
+use Rattle.laws.proofs.Numbers.{by-order}
 use Rattle.paths.specs.Cell.{empty}
 use Rattle.rows.specs.Rows.{Holds, unreached}
-use Rattle.rows.proofs.Cells.{by-order}
 use Rattle.closed.specs.Asked.{Unused}
 
 pub restored :

@@ -17,7 +17,7 @@ use Rattle.entries.specs.Words.{allWords}
 use Rattle.entries.specs.Ranking.{rankOnto, ranked}
 use Rattle.entries.specs.Placing.{Fit, All, Inserted}
 use Rattle.entries.proofs.Ranks.{all-ranked, ranked-more}
-use Rattle.entries.proofs.RankedWords.{length-ranked}
+use Rattle.entries.proofs.RankedLength.{length-ranked}
 use Rattle.decoding.specs.EntryOf.{entryOf, entriesOf}
 use Rattle.decoding.proofs.Demands.{entries-fit}
 

@@ -17,7 +17,8 @@ use Rattle.paths.specs.Units.{fitsUnit, mayHold, admitsUnit}
 use Rattle.paths.specs.LookAhead.{firstAhead, secondAhead, rowAhead, rowOr}
 use Rattle.paths.specs.StageProblem.{boundary}
 use Rattle.paths.specs.Marks.{Bounds}
-use Rattle.paths.proofs.LookAhead.{Rising, kept-rising, holds-none, holds-one, holds-more}
+use Rattle.paths.proofs.Rising.{Rising, kept-rising}
+use Rattle.paths.proofs.LookAhead.{holds-none, holds-one, holds-more}
 use Rattle.stages.specs.Tables.{beyond}
 use Rattle.spans.specs.Spans.{spanOf}
 use Rattle.frames.specs.declared.span.Span.{Span}

@@ -8,6 +8,7 @@ use lib.Dec.{T}
 use lib.ListN.{length, getD, length-replicate}
 use lib.Ieee.{Float, isNan}
 use Rattle.ieee.specs.Convert.{ClampedLog, clampedLog}
+use Rattle.ieee.proofs.Value.{finite-number}
 use Rattle.phrase.specs.Phrase.{Phrase, Stage, Candidate}
 use Rattle.paths.specs.declared.passes.Strictness.{Strictness}
 use Rattle.paths.specs.declared.passes.Pass.{Pass}
@@ -171,7 +172,7 @@ module _ {bytes : List ℕ} {at : Layout} (h : Laid bytes at) where
               coe 1 0 (i. ScoredAs (entryFor phrase chosenOne (it .is i)) (record { head = record { id = id; llr = llr; pass = number; units = k }; units = units }))
               (record {
                 whole = λ i. record { id = named i; pass = (numbered ∙ ap numberOf e) i; total = total; llr = clamped .value i; units = units-are i };
-                number = clamped .comparable .number;
+                number = finite-number _ (clamped .within .real .isFinite);
                 few = omega (arith, few-units);
                 starts = holds .startsLong;
                 ends = holds .endsLong;

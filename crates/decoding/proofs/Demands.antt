@@ -6,7 +6,8 @@ use mathlib.Core.Option.{none}
 use mathlib.Core.Path.{_≡_, refl, sym, ap, subst, _∙_}
 use native.Mathlib.Omega.{arith}
 use lib.ListN.{length, getD, length-map}
-use Rattle.ieee.proofs.NarrowClamp.{clampedLog-comparable}
+use Rattle.ieee.proofs.Value.{real-comparable}
+use Rattle.ieee.proofs.NarrowClamp.{clampedLog-within}
 use Rattle.phrase.specs.Phrase.{Candidate}
 use Rattle.paths.specs.Demand.{Answer, answerNumber, Demanded}
 use Rattle.paths.specs.Search.{chosen}
@@ -23,7 +24,7 @@ use Rattle.entries.specs.Placing.{Fit, All, Rankable}
 use Rattle.entries.specs.Ranking.{ranked, Ranked}
 use Rattle.entries.proofs.EntryWords.{length-allWords}
 use Rattle.entries.proofs.Ranks.{all-ranked, ranked-is}
-use Rattle.entries.proofs.RankedWords.{length-ranked}
+use Rattle.entries.proofs.RankedLength.{length-ranked}
 use Rattle.decoding.specs.EntryOf.{entryFor, entryBy, entryOf, entriesOf}
 use Rattle.decoding.specs.Contract.{Meets, MeetsEach, all-met, each-met}
 use Rattle.decoding.proofs.Bounded.{phrase-fit, bounded}
@@ -58,7 +59,7 @@ module _ (bytes : List ℕ) (accepted : refusalOf bytes ≡ none) where
   pub entry-fits : {c : Candidate} → Fits c → Fit (edition1 .units) (entryOf (phraseOf bytes) c)
   unfolding entryBy entryFor
   entry-fits {c} fits =
-      record { rankable = clampedLog-comparable _; few = subst (λ (n : ℕ). n ≤ edition1 .units) (sym (length-units (answered fits))) (fits .fewUnits) }
+      record { rankable = real-comparable (clampedLog-within _ .real); few = subst (λ (n : ℕ). n ≤ edition1 .units) (sym (length-units (answered fits))) (fits .fewUnits) }
 
   pub entries-fit : All (Fit (edition1 .units)) (entriesOf (phraseOf bytes))
   entries-fit =

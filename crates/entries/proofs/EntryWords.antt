@@ -11,7 +11,7 @@ use Rattle.entries.specs.Entry.{ReportedUnit, Entry}
 use Rattle.entries.specs.Words.{unitWords, entryWords, wordsOf, allWords}
 use Rattle.entries.specs.EntryFrom.{unitAt, unitsFrom}
 use Rattle.entries.specs.Placing.{Fit, All, none, more}
-use Rattle.entries.proofs.Stores.{sets-append}
+use Rattle.laws.proofs.Stores.{sets-append}
 
 pub length-unitsFrom : (starts ends rows : List ℕ) (left i : ℕ) → length (unitsFrom starts ends rows left i) ≡ left
 unfolding unitsFrom

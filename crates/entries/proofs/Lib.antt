@@ -1,9 +1,9 @@
 -- The laws of entries: how long their words are, where one more goes, and that the ranking is the one document 01 asks for.
-mod Stores
+mod UnitStores
 mod Places
 pub mod EntryWords
 pub mod Insertion
 pub mod Ranks
 pub mod RankUnique
-pub mod RankedWords
+pub mod RankedLength
 mod RankExamples

@@ -6,7 +6,7 @@ use Prim.Native.Nat.{ℕ}
 use lib.IntN.{pos, negsuc}
 use lib.Ieee.{Float, fin, binary32, binary64, ofInt, ofBits, toBits, round, lt, eq, isNan}
 use Rattle.ieee.specs.Convert.{narrowed, lowest, highest, clamped, clampedLog}
-use Rattle.ieee.specs.TotalOrder.{totalBefore, totalKey}
+use Rattle.ieee.specs.TotalOrder.{totalBefore, keyOfBits, totalKey}
 
 -- the bounds of the clamp
 upper-bound : highest ≡ ofInt binary64 (pos 1000000)
@@ -80,9 +80,9 @@ unfolding totalBefore ofBits lt eq
 zeros = refl
 
 key-below-zero : totalKey binary32 (ofBits binary32 0x80000000) ≡ 0x7fffffff
-unfolding totalKey ofBits toBits
+unfolding keyOfBits ofBits toBits
 key-below-zero = refl
 
 key-of-zero : totalKey binary32 (ofBits binary32 0) ≡ 0x80000000
-unfolding totalKey ofBits toBits
+unfolding keyOfBits ofBits toBits
 key-of-zero = refl

@@ -1,5 +1,4 @@
 -- The laws of IEEE 754's order and operations, for any format; what narrowing and the total order rest on; worked examples.
-mod Tests
 pub mod Value
 pub mod Order
 pub mod Rounding
@@ -8,7 +7,9 @@ pub mod Monotone
 pub mod Magnitude
 pub mod Weight
 pub mod Pattern
+pub mod PatternRange
 mod NarrowNearest
+mod Coded
 mod NarrowPattern
 mod NarrowShift
 mod NarrowFields

@@ -5,10 +5,10 @@ use mathlib.Core.Logic.{_↔_, _⊎_, inl, inr}
 use Prim.Native.Nat.{ℕ, _+_, _-_, _*_, _^_, _≤_, _<_}
 use native.Mathlib.Nat.{zero-lt-suc, le-trans, le-of-eq, lt-of-le-of-lt, mul-le-mul, mul-le-mul-right, le-of-mul-le-mul-right}
 use native.Mathlib.Omega.{arith}
-use mathlib.Core.Bool.{true, false, _&&_}
+use mathlib.Core.Bool.{Bool, true, false, _&&_}
 use lib.IntN.{pos}
 use lib.Dec.{T, leb, leb→le}
-use lib.Ieee.{Float, nan, inf, fin, Format, binary32, binary64, prec, fits, neg, add, sub, mul, le, ofInt}
+use lib.Ieee.{Float, nan, inf, fin, Format, binary32, binary64, prec, fits, round, neg, add, sub, mul, le, ofInt}
 use lib.Ieee.Fits.{ofInt-fits, fits-widens, and-l, and-r}
 use lib.Ieee.Exact.{HasValue}
 use lib.Ieee.Scale.{finite, overflow}
@@ -19,7 +19,7 @@ use Rattle.ieee.specs.Rounded.{rounding, Result}
 use Rattle.ieee.specs.Range.{between, within}
 use Rattle.ieee.proofs.Value.{one-pos, exact, sides, one-side, neg-real, neg-over, neg-under, value-finite, whole-mag}
 use Rattle.ieee.proofs.Order.{le-iff}
-use Rattle.ieee.proofs.Rounding.{rounding-mono, rounding-whole, whole-under}
+use Rattle.ieee.proofs.Rounding.{round-real, round-mag, rounding-mono, rounding-whole, whole-under}
 use Rattle.ieee.proofs.Result.{add-result, sub-result, mul-result}
 
 -- ---- what rounding does to a bound
@@ -29,6 +29,13 @@ bounded f a k c C h l =
     subst (λ (z : ℕ). rounding f k c ≤ z) (rounding-whole f a h)
     (rounding-mono f k c (a * one f) 1 C (zero-lt-suc 0) (omega arith)
     (subst (λ (z : ℕ). z < overflow f) (sym (rounding-whole f a h)) (whole-under f a h)))
+
+-- a fraction up to a whole number, rounded
+pub round-within : (f : Format) (s : Bool) (a d n : ℕ) → 0 < d → n ≤ 2 ^ prec f → a ≤ n * d → Within f (round f s a d) n
+round-within f s a d n D h l =
+    let low : rounding f (a * one f) d ≤ n * one f = bounded f n (a * one f) d D h (omega (arith, mul-le-mul-right (one f) l)) in
+    let small : rounding f (a * one f) d < overflow f = lt-of-le-of-lt low (whole-under f n h) in
+    record { real = round-real f s a d small; bound = subst (λ (z : ℕ). z ≤ n * one f) (sym (round-mag f s a d small)) low }
 
 -- a result whose exact value has a whole-number bound
 pub result-within : {f : Format} {r : Float} {p n c : ℕ} (a : ℕ) → 0 < c → a ≤ 2 ^ prec f → Result f r p n c

@@ -1,17 +1,17 @@
 -- What is clamped to ±1,000,000 is finite, and stays so when it is narrowed.
-use mathlib.Core.Path.{_≡_, refl, sym, ap, _∙_, subst}
+use mathlib.Core.Path.{_≡_, refl, sym, ap, _∙_}
 use mathlib.Core.Bool.{Bool, true, false, not, _&&_, _||_, Bool·beq, cond}
-use Prim.Native.Nat.{ℕ, zero, suc, _*_, _^_, _≤_}
+use Prim.Native.Nat.{ℕ, _*_, _≤_}
 use native.Mathlib.Omega.{arith}
 use borrow.Author.Tests.{eq-eqb}
-use lib.Dec.{T, ltb, eqb, nltb→le}
-use lib.Ieee.{Float, nan, inf, fin, Format, binary32, binary64, prec, low, up, down, odd, units, round, isNan, lt, le, eq, ne, neg, ofBits}
-use lib.Ieee.Fits.{round-is, down-pos}
-use lib.Ieee.Order.{drop, kept, round-mono}
-use lib.Ieee.Scale.{finite, overflow}
+use lib.Dec.{T, ltb, eqb, nltb→le, lit≤}
+use lib.IntN.{ℤ, pos}
+use lib.Ieee.{Float, nan, inf, fin, binary32, binary64, up, down, isNan, lt, eq, ne, neg, ofBits}
+use lib.Ieee.Fits.{down-pos}
+use Rattle.laws.proofs.Choices.{taken, passed}
+use Rattle.ieee.specs.Value.{Within}
 use Rattle.ieee.specs.Convert.{narrowed, lowest, highest, clamped, clampedLog}
-use Rattle.ieee.specs.TotalOrder.{Comparable}
-use Rattle.ieee.proofs.NarrowFields.{narrowed-fits, narrowed-number}
+use Rattle.ieee.proofs.Magnitude.{round-within}
 
 -- ---- a NaN, and nothing else, differs from itself
 same-sign : (s : Bool) → Bool·beq s s ≡ true
@@ -38,20 +38,19 @@ highest-is = refl
 module _ (v : Float) where
   pub at-nan : isNan v ≡ true → lowest ≡ clamped v
   unfolding clamped
-  at-nan h = sym (ap (λ (b : Bool). cond b lowest (cond (lt v lowest) lowest (cond (lt highest v) highest v))) h)
-
-  past-nan : isNan v ≡ false → cond (lt v lowest) lowest (cond (lt highest v) highest v) ≡ clamped v
-  unfolding clamped
-  past-nan h = sym (ap (λ (b : Bool). cond b lowest (cond (lt v lowest) lowest (cond (lt highest v) highest v))) h)
+  at-nan h = taken _ h
 
   pub at-lowest : isNan v ≡ false → lt v lowest ≡ true → lowest ≡ clamped v
-  at-lowest h l = sym (ap (λ (b : Bool). cond b lowest (cond (lt highest v) highest v)) l) ∙ past-nan h
+  unfolding clamped
+  at-lowest h l = passed _ h (taken _ l)
 
   pub at-highest : isNan v ≡ false → lt v lowest ≡ false → lt highest v ≡ true → highest ≡ clamped v
-  at-highest h l g = sym (ap (λ (b : Bool). cond b highest v) g) ∙ sym (ap (λ (b : Bool). cond b lowest (cond (lt highest v) highest v)) l) ∙ past-nan h
+  unfolding clamped
+  at-highest h l g = passed _ h (passed _ l (taken _ g))
 
   pub between : isNan v ≡ false → lt v lowest ≡ false → lt highest v ≡ false → v ≡ clamped v
-  between h l g = sym (ap (λ (b : Bool). cond b highest v) g) ∙ sym (ap (λ (b : Bool). cond b lowest (cond (lt highest v) highest v)) l) ∙ past-nan h
+  unfolding clamped
+  between h l g = passed _ h (passed _ l (passed _ g refl))
 
 -- ---- finite, and 1,000,000 in size at most
 abbrev Small : Float → Type 0
@@ -59,85 +58,29 @@ Small nan = ⊥
 Small (inf s) = ⊥
 Small (fin s m e) = m * up e ≤ 1000000 * down e
 
+-- of a value that is not past the bound of its sign
+small : (s : Bool) (m : ℕ) (e : ℤ) (past : Bool) → (T (not past) → m * up e * 1 ≤ 1000000 * down e) → Small (cond past (fin s 15625 (pos 6)) (fin s m e))
+small s m e true h = omega arith
+small s m e false h = omega (arith, h tt)
+
 clamped-small : (v : Float) → Small (clamped v)
 unfolding clamped isNan lt
 clamped-small nan = omega arith
 clamped-small (inf true) = omega arith
 clamped-small (inf false) = omega arith
-clamped-small (fin true m e) = go (ltb (1000000 * down e) (m * up e * 1)) (nltb→le (1000000 * down e) (m * up e * 1))
-  where
-    go : (b : Bool) → (T (not b) → m * up e * 1 ≤ 1000000 * down e) → Small (cond b lowest (fin true m e))
-    go true h = omega arith
-    go false h = omega (arith, h tt)
-clamped-small (fin false m e) = go (ltb (1000000 * down e) (m * up e * 1)) (nltb→le (1000000 * down e) (m * up e * 1))
-  where
-    go : (b : Bool) → (T (not b) → m * up e * 1 ≤ 1000000 * down e) → Small (cond b highest (fin false m e))
-    go true h = omega arith
-    go false h = omega (arith, h tt)
-
-small-number : (v : Float) → Small v → T (not (isNan v))
-unfolding isNan
-small-number nan h = h
-small-number (inf s) h = tt
-small-number (fin s m e) h = tt
+clamped-small (fin true m e) = small true m e (ltb (1000000 * down e) (m * up e * 1)) (nltb→le (1000000 * down e) (m * up e * 1))
+clamped-small (fin false m e) = small false m e (ltb (1000000 * down e) (m * up e * 1)) (nltb→le (1000000 * down e) (m * up e * 1))
 
 pub clamped-number : (v : Float) → T (not (isNan (clamped v)))
-clamped-number v = small-number (clamped v) (clamped-small v)
-
--- ---- whether a rounded value is finite does not turn on the sign
-odd-finite : (d : ℕ) (s : Bool) (q k l : ℕ) → finite (odd d s q k l) ≡ true
-unfolding odd
-odd-finite d s zero k l = refl
-odd-finite d s (suc q) k l = refl
-
-units-finite : (f : Format) (s : Bool) (q k : ℕ) → finite (units f s q k) ≡ ltb (q * 2 ^ k) (overflow f)
-unfolding units
-units-finite f s q k = go (ltb (q * 2 ^ k) (overflow f))
+clamped-number v = number (clamped v) (clamped-small v)
   where
-    go : (b : Bool) → finite (cond b (odd (suc (prec f)) s q k (low f)) (inf s)) ≡ b
-    go true = odd-finite (suc (prec f)) s q k (low f)
-    go false = refl
+    number : (v : Float) → Small v → T (not (isNan v))
+    number (fin s m e) h = unfold isNan in tt
 
-round-finite : (f : Format) (s : Bool) (a c : ℕ) → finite (round f s a c) ≡ finite (round f false a c)
-round-finite f s a c =
-    let q = kept (prec f) (a * 2 ^ low f) c in
-    let k = drop (prec f) (a * 2 ^ low f) c in
-    ap finite (round-is f s a c) ∙ units-finite f s q k ∙ sym (units-finite f false q k) ∙ ap finite (sym (round-is f false a c))
-
--- 1,000,000 is an f32, and what rounds to at most that is finite
-rounded-highest : round binary32 false 1000000 1 ≡ highest
-unfolding round
-rounded-highest = refl
-
-units-bounded : (f : Format) (q k : ℕ) → T (le (units f false q k) highest) → T (finite (units f false q k))
-unfolding units le
-units-bounded f q k = go (ltb (q * 2 ^ k) (overflow f))
-  where
-    go : (b : Bool) → T (le (cond b (odd (suc (prec f)) false q k (low f)) (inf false)) highest) → T (finite (cond b (odd (suc (prec f)) false q k (low f)) (inf false)))
-    go true h = subst T (sym (odd-finite (suc (prec f)) false q k (low f))) tt
-    go false h = h
-
-round-bounded : (f : Format) (a c : ℕ) → T (le (round f false a c) highest) → T (finite (round f false a c))
-round-bounded f a c h =
-    subst (λ (v : Float). T (finite v)) (sym (round-is f false a c))
-    (units-bounded f (kept (prec f) (a * 2 ^ low f) c) (drop (prec f) (a * 2 ^ low f) c) (subst (λ (v : Float). T (le v highest)) (round-is f false a c) h))
-
-narrowed-finite : (v : Float) → Small v → T (finite (narrowed v))
+narrowed-within : (v : Float) → Small v → Within binary32 (narrowed v) 1000000
 unfolding narrowed
-narrowed-finite nan h = absurd h
-narrowed-finite (inf s) h = absurd h
-narrowed-finite (fin s m e) h =
-    subst T (sym (round-finite binary32 s (m * up e) (down e)))
-    (round-bounded binary32 (m * up e) (down e)
-    (subst (λ (v : Float). T (le (round binary32 false (m * up e) (down e)) v)) rounded-highest
-    (round-mono binary32 (m * up e) (down e) 1000000 1 (down-pos e) (omega arith) (omega arith))))
+narrowed-within (fin s m e) h = round-within binary32 s (m * up e) (down e) 1000000 (down-pos e) (lit≤ tt) h
 
--- ---- what is clamped and narrowed: an f32, a number, and no infinity
-module _ (v : Float) where
-  pub clampedLog-comparable : Comparable binary32 (clampedLog v)
-  unfolding clampedLog
-  clampedLog-comparable = record { held = narrowed-fits (clamped v); number = narrowed-number (clamped v) (clamped-number v) }
-
-  pub clampedLog-finite : T (finite (clampedLog v))
-  unfolding clampedLog
-  clampedLog-finite = narrowed-finite (clamped v) (clamped-small v)
+pub clampedLog-within : (v : Float) → Within binary32 (clampedLog v) 1000000
+unfolding clampedLog
+clampedLog-within v = narrowed-within (clamped v) (clamped-small v)

@@ -4,18 +4,21 @@ use mathlib.Core.Path.{_≡_, refl, sym, ap, _∙_, subst}
 use mathlib.Core.Logic.{_⊎_, inl, inr}
 use mathlib.Core.Bool.{Bool, true, false, not, cond}
 use Prim.Native.Nat.{ℕ, zero, suc, _+_, _-_, _*_, _/_, _%_, _^_, _≤_, _<_}
-use native.Mathlib.Nat.{zero-add, mod-eq-of-lt}
+use native.Mathlib.Nat.{mul-one, zero-add, mod-eq-of-lt}
 use native.Mathlib.Omega.{arith}
-use borrow.Author.Tests.{ne-eqb, lt-leb}
-use lib.Dec.{T, leb, ltb, eqb, ltb→lt, nltb→le, leb→le, nleb→lt}
+use borrow.Author.Tests.{lt-leb}
+use lib.Dec.{T, leb, ltb, ltb→lt, nltb→le, leb→le, nleb→lt}
 use lib.Pow.{pow-pos}
-use lib.Ieee.{Float, nan, inf, fin, Format, binary32, binary64, prec, low, up, down, odd, units, round, hid, ones, top, ofFields, ofBits, toBits, isNan, fits}
-use lib.Ieee.Fits.{down-pos, round-is, round-fits, nan-fits, inf-fits}
+use lib.Ieee.{Float, nan, inf, fin, Format, binary32, binary64, low, up, down, round, hid, ones, top, ofFields, ofBits, toBits, isNan, fits}
+use lib.Ieee.Fits.{down-pos, round-fits, nan-fits, inf-fits}
 use lib.Ieee.Bits.{nanBits-is, nanBits-above, ofBits-toBits, toBits-lt}
-use lib.Ieee.Exact.{HasValue, odd-sign}
-use lib.Ieee.Order.{drop, kept}
-use lib.Ieee.Scale.{round-same, overflow}
+use lib.Ieee.Exact.{HasValue}
+use lib.Ieee.Scale.{round-same}
+use Rattle.ieee.specs.Value.{one}
 use Rattle.ieee.specs.Convert.{narrowed}
+use Rattle.ieee.proofs.Rounding.{round-number}
+use Rattle.ieee.proofs.Weight.{weigh}
+use Rattle.ieee.proofs.Pattern.{fields-value}
 use Rattle.ieee.proofs.NarrowPattern.{pattern, toBits-round}
 
 -- ---- narrowing sees only the value
@@ -36,20 +39,20 @@ abbrev pub significand : Format → ℕ → ℕ → ℕ
 significand f zero t = t
 significand f (suc x) t = hid f + t
 
-fields-value : (f : Format) (s : Bool) (x t : ℕ) → x < ones f → HasValue (ofFields f s x t) s (significand f x t * 2 ^ (x - 1)) (2 ^ low f)
-unfolding ofFields
-fields-value f s zero t h = odd-sign (prec f) s t 0 (low f)
-fields-value f s (suc x) t h =
-    let e : suc x - 1 ≡ x = omega arith in
-    subst (λ (b : Bool). HasValue (cond b (cond (eqb t 0) (inf s) nan) (odd (prec f) s (hid f + t) x (low f))) s ((hid f + t) * 2 ^ (suc x - 1)) (2 ^ low f))
-    (sym (ne-eqb (suc x) (ones f) (λ (e : suc x ≡ ones f). omega arith)))
-    (subst (λ (j : ℕ). HasValue (odd (prec f) s (hid f + t) x (low f)) s ((hid f + t) * 2 ^ j) (2 ^ low f)) (sym e) (odd-sign (prec f) s (hid f + t) x (low f)))
+weighs : (f : Format) (x t : ℕ) → weigh (hid f) x t ≡ significand f x t * 2 ^ (x - 1)
+unfolding weigh
+weighs f zero t = sym (mul-one t)
+weighs f (suc x) t = let e : x ≡ suc x - 1 = omega arith in ap (λ (j : ℕ). (hid f + t) * 2 ^ j) e
+
+digits-value : (f : Format) (s : Bool) (x t : ℕ) → x < ones f → HasValue (ofFields f s x t) s (significand f x t * 2 ^ (x - 1)) (2 ^ low f)
+unfolding one
+digits-value f s x t h = subst (λ (n : ℕ). HasValue (ofFields f s x t) s n (2 ^ low f)) (weighs f x t) (fields-value f s x t h)
 
 -- ---- the pattern of narrowed fields
 pub finite-pattern : (s : Bool) (x t : ℕ) → x < ones binary64
     → toBits binary32 (narrowed (ofFields binary64 s x t)) ≡ cond s (top binary32) 0 + pattern binary32 (significand binary64 x t * 2 ^ (x - 1)) (2 ^ low binary64)
 finite-pattern s x t h =
-    ap (toBits binary32) (narrowed-value (ofFields binary64 s x t) s (significand binary64 x t * 2 ^ (x - 1)) (2 ^ low binary64) (pow-pos (low binary64)) (fields-value binary64 s x t h))
+    ap (toBits binary32) (narrowed-value (ofFields binary64 s x t) s (significand binary64 x t * 2 ^ (x - 1)) (2 ^ low binary64) (pow-pos (low binary64)) (digits-value binary64 s x t h))
     ∙ toBits-round binary32 s (significand binary64 x t * 2 ^ (x - 1)) (2 ^ low binary64)
 
 pub infinite-pattern : (s : Bool) (x t : ℕ) → x ≡ ones binary64 → t ≡ 0 → toBits binary32 (narrowed (ofFields binary64 s x t)) ≡ cond s (top binary32) 0 + ones binary32 * hid binary32
@@ -106,26 +109,11 @@ narrowed-sign b w h =
     ∙ ap (λ (v : Float). b / top binary64 * top binary32 + toBits binary32 (narrowed v)) (sym (magnitude-fields m (omega arith)))
 
 -- ---- of a value that is no NaN
-odd-number : (d : ℕ) (s : Bool) (q k l : ℕ) → T (not (isNan (odd d s q k l)))
-unfolding odd isNan
-odd-number d s zero k l = tt
-odd-number d s (suc q) k l = tt
-
-units-number : (f : Format) (s : Bool) (q k : ℕ) → T (not (isNan (units f s q k)))
-unfolding units isNan
-units-number f s q k = go (ltb (q * 2 ^ k) (overflow f))
-  where
-    go : (b : Bool) → T (not (isNan (cond b (odd (suc (prec f)) s q k (low f)) (inf s))))
-    go true = odd-number (suc (prec f)) s q k (low f)
-    go false = tt
-
 pub narrowed-number : (v : Float) → T (not (isNan v)) → T (not (isNan (narrowed v)))
 unfolding narrowed isNan
 narrowed-number nan h = h
 narrowed-number (inf s) h = tt
-narrowed-number (fin s m e) h =
-    subst (λ (v : Float). T (not (isNan v))) (sym (round-is binary32 s (m * up e) (down e)))
-    (units-number binary32 s (kept 24 (m * up e * 2 ^ low binary32) (down e)) (drop 24 (m * up e * 2 ^ low binary32) (down e)))
+narrowed-number (fin s m e) h = round-number binary32 s (m * up e) (down e)
 
 module _ (v : Float) (held : T (fits binary64 v)) (h : T (not (isNan v))) where
   read-back : T (not (isNan (ofBits binary64 (toBits binary64 v))))

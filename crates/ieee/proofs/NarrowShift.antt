@@ -10,7 +10,8 @@ use lib.Ieee.Digits.{size-le}
 use lib.Ieee.Fits.{two}
 use lib.Ieee.Nearest.{closest, closest-same}
 use lib.Ieee.Order.{drop, kept}
-use Rattle.ieee.proofs.NarrowPattern.{pattern, size-exact}
+use Rattle.ieee.proofs.Coded.{size-exact}
+use Rattle.ieee.proofs.NarrowPattern.{pattern}
 
 -- two products of powers of two with the same exponents
 powers : (a b c d : ℕ) → a + b ≡ c + d → 2 ^ a * 2 ^ b ≡ 2 ^ c * 2 ^ d

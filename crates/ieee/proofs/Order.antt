@@ -2,9 +2,9 @@
 -- without subtraction. The two zeros are equal by themselves. From that the laws that a search for a largest value needs.
 -- Assumes nothing.
 use mathlib.Core.Path.{_≡_, sym, ap, _∙_, subst}
-use mathlib.Core.Logic.{_↔_, _⊎_, inl, inr}
+use mathlib.Core.Logic.{_↔_, Iff·trans, inl, inr}
 use Prim.Native.Nat.{ℕ, _+_, _*_, _≤_, _<_}
-use native.Mathlib.Nat.{le-of-lt, le-of-eq, eq-or-lt-of-le, le-of-suc-le-suc, lt-of-not-le, mul-comm, mul-pos, mul-lt-mul-of-pos-right, lt-of-mul-lt-mul-right, eq-of-mul-eq-mul-right}
+use native.Mathlib.Nat.{le-of-lt, le-of-eq, eq-or-lt-of-le, mul-comm, mul-pos, mul-lt-mul-of-pos-right, lt-of-mul-lt-mul-right, eq-of-mul-eq-mul-right}
 use native.Mathlib.Omega.{arith}
 use mathlib.Core.Bool.{Bool, true, false, not, cond}
 use lib.IntN.{ℤ}
@@ -14,13 +14,11 @@ use lib.Ieee.Fits.{and-i, and-l, and-r, eq→eqb}
 use lib.Ieee.Scale.{finite}
 use lib.Ieee.Positive.{den-pos}
 use Rattle.ieee.specs.Value.{one, mag, over, under, Real}
-use Rattle.ieee.proofs.Tests.{either, or-l, or-r}
+use Rattle.laws.proofs.Tests.{either, either-left, either-right}
+use Rattle.laws.proofs.Numbers.{le-of-not-lt}
 use Rattle.ieee.proofs.Value.{one-pos, exact}
 
 -- ---- the order of ±a and ±b
-
-same : (a b : ℕ) → a ≡ b → T (eqb a b)
-same a b e = eq→eqb e
 
 lt-signs : (s t : Bool) (a b : ℕ) → T (below s a t b) ↔ (cond s 0 a + cond t b 0 < cond t 0 b + cond s a 0)
 lt-signs false false a b = (λ h. omega (arith, ltb→lt a b h), λ h. lt→ltb a b (omega arith))
@@ -29,16 +27,16 @@ lt-signs true false a b = (λ h. omega (arith, ltb→lt 0 (a + b) h), λ h. lt�
 lt-signs true true a b = (λ h. omega (arith, ltb→lt b a h), λ h. lt→ltb b a (omega arith))
 
 eq-signs : (s t : Bool) (a b : ℕ) → T (level s a t b) ↔ (cond s 0 a + cond t b 0 ≡ cond t 0 b + cond s a 0)
-eq-signs false false a b = (λ h. omega (arith, eqb→eq a b (and-l (eqb a b) true h)), λ h. and-i (eqb a b) true (same a b (omega arith)) tt)
+eq-signs false false a b = (λ h. omega (arith, eqb→eq a b (and-l (eqb a b) true h)), λ h. and-i (eqb a b) true (eq→eqb {a = a} {b = b} (omega arith)) tt)
 eq-signs false true a b = (
   λ h. omega (arith, eqb→eq a b (and-l (eqb a b) (eqb a 0) h), eqb→eq a 0 (and-r (eqb a b) (eqb a 0) h)),
-  λ h. and-i (eqb a b) (eqb a 0) (same a b (omega arith)) (same a 0 (omega arith)),
+  λ h. and-i (eqb a b) (eqb a 0) (eq→eqb {a = a} {b = b} (omega arith)) (eq→eqb {a = a} {b = 0} (omega arith)),
 )
 eq-signs true false a b = (
   λ h. omega (arith, eqb→eq a b (and-l (eqb a b) (eqb a 0) h), eqb→eq a 0 (and-r (eqb a b) (eqb a 0) h)),
-  λ h. and-i (eqb a b) (eqb a 0) (same a b (omega arith)) (same a 0 (omega arith)),
+  λ h. and-i (eqb a b) (eqb a 0) (eq→eqb {a = a} {b = b} (omega arith)) (eq→eqb {a = a} {b = 0} (omega arith)),
 )
-eq-signs true true a b = (λ h. omega (arith, eqb→eq a b (and-l (eqb a b) true h)), λ h. and-i (eqb a b) true (same a b (omega arith)) tt)
+eq-signs true true a b = (λ h. omega (arith, eqb→eq a b (and-l (eqb a b) true h)), λ h. and-i (eqb a b) true (eq→eqb {a = a} {b = b} (omega arith)) tt)
 
 -- ---- in units of the format, whatever the two fractions
 
@@ -60,12 +58,6 @@ eq-scale p q p' q' k o K O e g = (
   λ h. eq-of-mul-eq-mul-right k K p q (e ∙ ap (λ (z : ℕ). z * o) h ∙ sym g),
   λ h. eq-of-mul-eq-mul-right o O p' q' (sym e ∙ ap (λ (z : ℕ). z * k) h ∙ g),
 )
-
-le-of-not-lt : {m n : ℕ} → ((m < n) → ⊥) → n ≤ m
-le-of-not-lt h = le-of-suc-le-suc (lt-of-not-le h)
-
-chain : {A B C : Type 0} → A ↔ B → B ↔ C → A ↔ C
-chain p q = (λ a. q .0 (p .0 a), λ c. p .1 (q .1 c))
 
 module _ (f : Format) (s : Bool) (m : ℕ) (e : ℤ) (t : Bool) (n : ℕ) (d : ℤ) (x : Real f (fin s m e)) (y : Real f (fin t n d)) where
   a : ℕ
@@ -93,11 +85,11 @@ module _ (f : Format) (s : Bool) (m : ℕ) (e : ℤ) (t : Bool) (n : ℕ) (d : �
 
   lt-fin : T (lt (fin s m e) (fin t n d)) ↔ (over f (fin s m e) + under f (fin t n d) < over f (fin t n d) + under f (fin s m e))
   unfolding lt a b
-  lt-fin = chain (lt-signs s t a b) (lt-scale _ _ _ _ k (one f) k-pos (one-pos f) left right)
+  lt-fin = Iff·trans (lt-signs s t a b) (lt-scale _ _ _ _ k (one f) k-pos (one-pos f) left right)
 
   eq-fin : T (eq (fin s m e) (fin t n d)) ↔ (over f (fin s m e) + under f (fin t n d) ≡ over f (fin t n d) + under f (fin s m e))
   unfolding eq a b
-  eq-fin = chain (eq-signs s t a b) (eq-scale _ _ _ _ k (one f) k-pos (one-pos f) left right)
+  eq-fin = Iff·trans (eq-signs s t a b) (eq-scale _ _ _ _ k (one f) k-pos (one-pos f) left right)
 
 -- ---- the order of real values
 
@@ -119,7 +111,7 @@ pub le-iff : {f : Format} {x y : Float} → Real f x → Real f y → T (le x y)
 unfolding le
 le-iff {f} {x} {y} p q = (
   λ h. elim (either (lt x y) (eq x y) h) [ inl l ↦ le-of-lt (lt-iff p q .0 l) | inr e ↦ le-of-eq (eq-iff p q .0 e) ],
-  λ h. elim (eq-or-lt-of-le h) [ inl e ↦ or-r (lt x y) (eq x y) (eq-iff p q .1 e) | inr l ↦ or-l (lt x y) (eq x y) (lt-iff p q .1 l) ],
+  λ h. elim (eq-or-lt-of-le h) [ inl e ↦ either-right (lt x y) (eq x y) (eq-iff p q .1 e) | inr l ↦ either-left (lt x y) (eq x y) (lt-iff p q .1 l) ],
 )
 
 -- ---- what follows from the numbers alone
@@ -132,31 +124,12 @@ module _ {f : Format} {x : Float} (p : Real f x) where
     pub lt→le : T (lt x y) → T (le x y)
     lt→le h = le-iff p q .1 (omega (arith, lt-iff p q .0 h))
 
-    pub eq→le : T (eq x y) → T (le x y)
-    eq→le h = le-iff p q .1 (omega (arith, eq-iff p q .0 h))
-
-    pub eq→ge : T (eq x y) → T (le y x)
-    eq→ge h = le-iff q p .1 (omega (arith, eq-iff p q .0 h))
-
     pub le-antisym : T (le x y) → T (le y x) → T (eq x y)
     le-antisym h k = eq-iff p q .1 (omega (arith, le-iff p q .0 h, le-iff q p .0 k))
 
     pub not-lt→ge : T (not (lt x y)) → T (le y x)
     not-lt→ge n = le-iff q p .1 (le-of-not-lt (λ l. T-not (lt x y) n (lt-iff p q .1 l)))
 
-    pub le-total : T (le x y) ⊎ T (le y x)
-    le-total = go (lt x y) (λ h. lt→le h) (λ h. not-lt→ge h)
-      where
-        go : (b : Bool) → (T b → T (le x y)) → (T (not b) → T (le y x)) → T (le x y) ⊎ T (le y x)
-        go true h k = inl (h tt)
-        go false h k = inr (k tt)
-
     module _ {z : Float} (r : Real f z) where
       pub le-trans : T (le x y) → T (le y z) → T (le x z)
       le-trans h k = le-iff p r .1 (omega (arith, le-iff p q .0 h, le-iff q r .0 k))
-
-      pub lt-le-trans : T (lt x y) → T (le y z) → T (lt x z)
-      lt-le-trans h k = lt-iff p r .1 (omega (arith, lt-iff p q .0 h, le-iff q r .0 k))
-
-      pub le-lt-trans : T (le x y) → T (lt y z) → T (lt x z)
-      le-lt-trans h k = lt-iff p r .1 (omega (arith, le-iff p q .0 h, lt-iff q r .0 k))

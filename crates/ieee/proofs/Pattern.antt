@@ -1,36 +1,32 @@
--- A bit pattern's value in units of its format, and range tests on patterns: with its sign taken off, a pattern compares as its magnitude does.
--- Assumes nothing.
-use mathlib.Core.Path.{_≡_, refl, sym, ap, _∙_, subst}
-use mathlib.Core.Logic.{_↔_, inl, inr}
+-- A bit pattern's value in units of its format: with its sign taken off, a pattern compares as its magnitude does. Assumes nothing.
+use mathlib.Core.Path.{_≡_, sym, ap, _∙_, subst}
+use mathlib.Core.Logic.{_↔_}
 use Prim.Native.Nat.{ℕ, zero, suc, _+_, _-_, _*_, _/_, _%_, _^_, _≤_, _<_}
-use native.Mathlib.Nat.{le-of-suc-le-suc, lt-of-le-of-lt, mul-one, mul-comm, mul-pos, zero-lt-suc, mod-lt, mod-eq-of-lt, div-lt-iff-lt-mul, mod-mod-of-dvd, dvd-mul-right}
+use native.Mathlib.Nat.{le-of-suc-le-suc, mul-one, mul-comm, mul-pos, zero-lt-suc, mod-lt, mod-eq-of-lt, div-lt-iff-lt-mul, mod-mod-of-dvd, dvd-mul-right}
 use native.Mathlib.Omega.{arith}
-use mathlib.Core.Bool.{Bool, true, false, not, cond, _&&_, _||_}
-use lib.Dec.{T, leb, ltb, eqb, leb→le, le→leb, eqb→eq, not-T}
-use lib.Arith.{le-zero, lt→nleb, le→nltb, lt-of-le-ne}
+use mathlib.Core.Bool.{Bool, true, false, not, cond}
+use lib.Dec.{T, leb, eqb, eqb→eq, not-T}
+use lib.Arith.{lt→nleb, lt-of-le-ne}
 use lib.Pow.{pow-pos}
-use lib.Ieee.{Float, nan, inf, fin, Format, prec, low, odd, neg, le, hid, ones, top, ofFields, ofBits, isNan, nanBits}
-use lib.Ieee.Fits.{and-i, and-l, and-r, eq→eqb}
-use lib.Ieee.Bits.{is-false, cond-no, ofBits-fits, nanBits-above, nanBits-is}
+use lib.Ieee.{Float, nan, inf, Format, prec, low, odd, neg, le, hid, ones, top, ofFields, ofBits}
+use lib.Ieee.Fits.{eq→eqb}
+use lib.Ieee.Bits.{is-false, cond-no, ofBits-fits}
 use lib.Ieee.Exact.{HasValue, odd-sign}
 use lib.Ieee.Scale.{finite}
 use Rattle.ieee.specs.Value.{one, mag, over, under, Real}
-use Rattle.ieee.specs.Range.{between, within, RangeTest}
-use Rattle.ieee.proofs.Tests.{either, or-l, or-r, same-test}
 use Rattle.ieee.proofs.Value.{value-finite, value-mag, value-over, value-under, neg-real, neg-over, neg-under}
 use Rattle.ieee.proofs.Order.{le-iff}
-use Rattle.ieee.proofs.Magnitude.{between-finite}
 use Rattle.ieee.proofs.Weight.{weigh, weight, weight-le}
 
 -- ---- a pattern's fields
 
-hid-pos : (f : Format) → 0 < hid f
+pub hid-pos : (f : Format) → 0 < hid f
 hid-pos f = pow-pos (prec f - 1)
 
 not-ones : (f : Format) (x : ℕ) → x < ones f → T (not (eqb x (ones f)))
 not-ones f x l = not-T (eqb x (ones f)) (λ t. omega (arith, eqb→eq x (ones f) t))
 
-fields-value : (f : Format) (s : Bool) (x t : ℕ) → x < ones f → HasValue (ofFields f s x t) s (weigh (hid f) x t) (one f)
+pub fields-value : (f : Format) (s : Bool) (x t : ℕ) → x < ones f → HasValue (ofFields f s x t) s (weigh (hid f) x t) (one f)
 unfolding ofFields weigh one
 fields-value f s zero t l = subst (λ (n : ℕ). HasValue (odd (prec f) s t 0 (low f)) s n (2 ^ low f)) (mul-one t) (odd-sign (prec f) s t 0 (low f))
 fields-value f s (suc x) t l =
@@ -114,14 +110,14 @@ module _ (f : Format) (k : ℕ) (l : k < ones f * hid f) where
   pub limit-under : under f (ofBits f k) ≡ 0
   limit-under = pattern-under f k in-range ∙ ap (λ (s : Bool). cond s (mag f (ofBits f k)) 0) plus
 
-  at-least : {x : Float} → Real f x → T (le (neg (ofBits f k)) x) ↔ (under f x ≤ over f x + mag f (ofBits f k))
+  pub at-least : {x : Float} → Real f x → T (le (neg (ofBits f k)) x) ↔ (under f x ≤ over f x + mag f (ofBits f k))
   at-least r =
       let i = le-iff (neg-real limit-real) r in
       let o : over f (neg (ofBits f k)) ≡ 0 = neg-over f (ofBits f k) ∙ limit-under in
       let u : under f (neg (ofBits f k)) ≡ mag f (ofBits f k) = neg-under f (ofBits f k) ∙ limit-over in
       (λ h. omega (arith, i .0 h), λ h. i .1 (omega arith))
 
-  at-most : {x : Float} → Real f x → T (le x (ofBits f k)) ↔ (over f x ≤ under f x + mag f (ofBits f k))
+  pub at-most : {x : Float} → Real f x → T (le x (ofBits f k)) ↔ (over f x ≤ under f x + mag f (ofBits f k))
   at-most r =
       let i = le-iff r limit-real in
       (λ h. omega (arith, i .0 h, limit-over, limit-under), λ h. i .1 (omega (arith, limit-over, limit-under)))
@@ -131,111 +127,3 @@ module _ (f : Format) (k : ℕ) (l : k < ones f * hid f) where
   pattern-le b h =
       subst (λ (m : ℕ). (b % top f ≤ k) ↔ (m ≤ mag f (ofBits f k))) (sym (pattern-mag f b h))
       (subst (λ (m : ℕ). (b % top f ≤ k) ↔ (weight (hid f) (b % top f) ≤ m)) (sym limit-mag) (weight-le (hid f) (b % top f) k (hid-pos f)))
-
-  -- no pattern up to the limit is a NaN's, so that it may be read as a float
-  pub pattern-no-nan : (b : ℕ) → T (leb (b % top f) k) → nanBits f b ≡ false
-  pattern-no-nan b t =
-      nanBits-above f b
-      ∙ is-false (ltb (ones f * hid f) (b % top f)) (le→nltb (ones f * hid f) (b % top f) (omega (arith, leb→le (b % top f) k t)))
-
--- ---- range tests on patterns
-
--- from the negative of one limit up to another: the sign says which of them counts
-module _ (f : Format) (k h : ℕ) (p : k < ones f * hid f) (q : h < ones f * hid f) (b : ℕ) where
-  pub pattern-between : cond (leb (top f) b) (leb (b % top f) k) (leb (b % top f) h) ≡ between (neg (ofBits f k)) (ofBits f h) (ofBits f b)
-  pattern-between =
-      same-test (cond (leb (top f) b) (leb r k) (leb r h)) (le lo x && le x hi)
-      (into (leb (top f) b) (pattern-over f b) (pattern-under f b)) out
-    where
-      r : ℕ
-      r = b % top f
-
-      lo : Float
-      lo = neg (ofBits f k)
-
-      hi : Float
-      hi = ofBits f h
-
-      x : Float
-      x = ofBits f b
-
-      into : (s : Bool) → (r < ones f * hid f → over f x ≡ cond s 0 (mag f x)) → (r < ones f * hid f → under f x ≡ cond s (mag f x) 0)
-          → T (cond s (leb r k) (leb r h)) → T (le lo x && le x hi)
-      into true o u t =
-          let l : r ≤ k = leb→le r k t in
-          let fine : r < ones f * hid f = lt-of-le-of-lt l p in
-          let v = pattern-real f b fine in
-          and-i (le lo x) (le x hi) (at-least f k p v .1 (omega (arith, pattern-le f k p b fine .0 l, u fine)))
-          (at-most f h q v .1 (omega (arith, o fine)))
-      into false o u t =
-          let l : r ≤ h = leb→le r h t in
-          let fine : r < ones f * hid f = lt-of-le-of-lt l q in
-          let v = pattern-real f b fine in
-          and-i (le lo x) (le x hi) (at-least f k p v .1 (omega (arith, u fine)))
-          (at-most f h q v .1 (omega (arith, pattern-le f h q b fine .0 l, o fine)))
-
-      out : T (le lo x && le x hi) → T (cond (leb (top f) b) (leb r k) (leb r h))
-      out t =
-          let above : T (le lo x) = and-l (le lo x) (le x hi) t in
-          let below : T (le x hi) = and-r (le lo x) (le x hi) t in
-          let fine : r < ones f * hid f =
-          finite-pattern f b (between-finite lo hi x (neg-real (limit-real f k p) .isFinite) (limit-real f h q .isFinite) above below) in
-          let v = pattern-real f b fine in
-          sort (leb (top f) b) (pattern-over f b fine) (pattern-under f b fine) (at-least f k p v .0 above) (at-most f h q v .0 below) fine
-        where
-          sort : (s : Bool) → over f x ≡ cond s 0 (mag f x) → under f x ≡ cond s (mag f x) 0
-              → under f x ≤ over f x + mag f (ofBits f k) → over f x ≤ under f x + mag f (ofBits f h) → r < ones f * hid f
-              → T (cond s (leb r k) (leb r h))
-          sort true o u low high fine = le→leb r k (pattern-le f k p b fine .1 (omega arith))
-          sort false o u low high fine = le→leb r h (pattern-le f h q b fine .1 (omega arith))
-
-zero-finite : (f : Format) → 0 < ones f * hid f
-zero-finite f = mul-pos {m = ones f} (omega arith) (hid-pos f)
-
-either-way : (s a : Bool) → a ≡ cond s a a
-either-way true a = refl
-either-way false a = refl
-
-up-to-zero : (s : Bool) (r k : ℕ) → (eqb r 0 || (s && leb r k)) ≡ cond s (leb r k) (leb r 0)
-up-to-zero s r k = same-test (eqb r 0 || (s && leb r k)) (cond s (leb r k) (leb r 0)) (into s) (out s)
-  where
-    into : (s : Bool) → T (eqb r 0 || (s && leb r k)) → T (cond s (leb r k) (leb r 0))
-    into true t = elim (either (eqb r 0) (leb r k) t) [ inl z ↦ le→leb r k (omega (arith, eqb→eq r 0 z)) | inr l ↦ l ]
-    into false t = elim (either (eqb r 0) false t) [ inl z ↦ le→leb r 0 (omega (arith, eqb→eq r 0 z)) | inr l ↦ absurd l ]
-
-    out : (s : Bool) → T (cond s (leb r k) (leb r 0)) → T (eqb r 0 || (s && leb r k))
-    out true t = or-r (eqb r 0) (leb r k) t
-    out false t = or-l (eqb r 0) false (eq→eqb {a = r} {b = 0} (le-zero (leb→le r 0 t)))
-
-module _ (f : Format) (k : ℕ) (l : k < ones f * hid f) (b : ℕ) where
-  pub pattern-within : leb (b % top f) k ≡ within (ofBits f k) (ofBits f b)
-  pattern-within = either-way (leb (top f) b) (leb (b % top f) k) ∙ pattern-between f k k l l b
-
-  -- from the negative of the limit up to either zero
-  pub pattern-nonpositive : (eqb (b % top f) 0 || (leb (top f) b && leb (b % top f) k)) ≡ between (neg (ofBits f k)) (ofBits f 0) (ofBits f b)
-  pattern-nonpositive = up-to-zero (leb (top f) b) (b % top f) k ∙ pattern-between f k 0 l (zero-finite f) b
-
--- ---- the same as promises of a test on bits
-
-le-no-nan : (x y : Float) → T (le x y) → isNan y ≡ false
-unfolding le isNan
-le-no-nan nan nan h = absurd h
-le-no-nan (inf s) nan h = absurd h
-le-no-nan (fin s m e) nan h = absurd h
-le-no-nan x (inf t) h = refl
-le-no-nan x (fin t n d) h = refl
-
-range-test : (f : Format) (lo hi : Float) (bits : ℕ) (r : Bool) → r ≡ between lo hi (ofBits f bits) → RangeTest f (between lo hi) bits r
-range-test f lo hi bits r e = record {
-  answer = e;
-  notNan = λ t. nanBits-is f bits ∙ le-no-nan lo (ofBits f bits) (and-l (le lo (ofBits f bits)) (le (ofBits f bits) hi) (subst T e t));
-}
-
-module _ (f : Format) (k : ℕ) (l : k < ones f * hid f) (b : ℕ) where
-  pub within-test : RangeTest f (within (ofBits f k)) b (leb (b % top f) k)
-  within-test = range-test f (neg (ofBits f k)) (ofBits f k) b (leb (b % top f) k) (pattern-within f k l b)
-
-  pub nonpositive-test : RangeTest f (between (neg (ofBits f k)) (ofBits f 0)) b (eqb (b % top f) 0 || (leb (top f) b && leb (b % top f) k))
-  nonpositive-test =
-      range-test f (neg (ofBits f k)) (ofBits f 0) b (eqb (b % top f) 0 || (leb (top f) b && leb (b % top f) k))
-      (pattern-nonpositive f k l b)

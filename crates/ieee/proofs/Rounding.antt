@@ -4,19 +4,19 @@ use mathlib.Core.Path.{_≡_, sym, ap, _∙_, subst}
 use Prim.Native.Nat.{ℕ, zero-le, suc, _-_, _*_, _^_, _≤_, _<_}
 use native.Mathlib.Nat.{mul-assoc, mul-pos, mul-le-mul-right, zero-lt-suc}
 use native.Mathlib.Omega.{arith}
-use mathlib.Core.Bool.{Bool, true, false, cond}
+use mathlib.Core.Bool.{Bool, true, false, not, cond}
 use lib.Dec.{T, ltb, ltb→lt}
 use lib.Pow.{pow-pos}
-use lib.Ieee.{Float, inf, fin, Format, prec, low, odd, units, round, le}
+use lib.Ieee.{Float, inf, fin, Format, prec, low, odd, units, round, le, isNan}
 use lib.Ieee.Fits.{round-fits, round-is}
-use lib.Ieee.Exact.{HasValue, units-val}
+use lib.Ieee.Exact.{HasValue, odd-sign, units-val}
 use lib.Ieee.Nearest.{closest, closest-same, div-same}
 use lib.Ieee.Order.{kept, drop, round-mono}
 use lib.Ieee.Scale.{finite, overflow}
 use lib.Ieee.Back.{round-whole}
 use Rattle.ieee.specs.Value.{one, mag, over, under, Real}
 use Rattle.ieee.specs.Rounded.{rounding}
-use Rattle.ieee.proofs.Value.{one-pos, value-finite, value-mag, whole-mag, value-over, value-under}
+use Rattle.ieee.proofs.Value.{one-pos, finite-number, value-finite, value-mag, whole-mag, value-over, value-under}
 use Rattle.ieee.proofs.Order.{le-iff}
 
 -- ---- `round`, by its sign and its number of units
@@ -33,14 +33,14 @@ module _ (f : Format) (s : Bool) (a d : ℕ) where
     round-value = subst (λ (z : Float). HasValue z s (rounding f (a * one f) d) (one f)) (sym (round-is f s a d))
         (units-val f s (kept (prec f) (a * one f) d) (drop (prec f) (a * one f) d) h)
 
-    size : mag f (round f s a d) ≡ rounding f (a * one f) d
-    size = value-mag f (round f s a d) s (rounding f (a * one f) d) round-value
+    pub round-mag : mag f (round f s a d) ≡ rounding f (a * one f) d
+    round-mag = value-mag f (round f s a d) s (rounding f (a * one f) d) round-value
 
     pub round-over : over f (round f s a d) ≡ cond s 0 (rounding f (a * one f) d)
-    round-over = value-over f (round f s a d) s (rounding f (a * one f) d) (one f) round-value ∙ ap (λ (z : ℕ). cond s 0 z) size
+    round-over = value-over f (round f s a d) s (rounding f (a * one f) d) (one f) round-value ∙ ap (λ (z : ℕ). cond s 0 z) round-mag
 
     pub round-under : under f (round f s a d) ≡ cond s (rounding f (a * one f) d) 0
-    round-under = value-under f (round f s a d) s (rounding f (a * one f) d) (one f) round-value ∙ ap (λ (z : ℕ). cond s z 0) size
+    round-under = value-under f (round f s a d) s (rounding f (a * one f) d) (one f) round-value ∙ ap (λ (z : ℕ). cond s z 0) round-mag
 
     pub round-real : Real f (round f s a d)
     round-real = record { isFinite = value-finite (round f s a d) s (rounding f (a * one f) d) (one f) round-value; isHeld = round-fits f s a d }
@@ -55,6 +55,16 @@ module _ (f : Format) (s : Bool) (a d : ℕ) where
           → rounding f (a * one f) d < overflow f
       go true h u = h tt
       go false h u = absurd u
+
+  pub round-number : T (not (isNan (round f s a d)))
+  round-number = subst (λ (z : Float). T (not (isNan z))) (sym opened) (go (ltb (rounding f (a * one f) d) (overflow f)))
+    where
+      x : Float
+      x = odd (suc (prec f)) s (kept (prec f) (a * one f) d) (drop (prec f) (a * one f) d) (low f)
+
+      go : (b : Bool) → T (not (isNan (cond b x (inf s))))
+      go true = finite-number x (value-finite x s _ _ (odd-sign (suc (prec f)) s (kept (prec f) (a * one f) d) (drop (prec f) (a * one f) d) (low f)))
+      go false = unfold isNan in tt
 
 -- ---- equal fractions
 

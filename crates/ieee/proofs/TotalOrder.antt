@@ -6,7 +6,7 @@ use native.Mathlib.Omega.{arith}
 use borrow.Author.Tests.{lt-ltb, le-ltb}
 use lib.Dec.{T, ltb, eqb, ltb→lt, nltb→le}
 use lib.Ieee.{Float, nan, inf, fin, Format, up, down, lt, eq, isNan, top, toBits}
-use Rattle.ieee.specs.TotalOrder.{Comparable, negative, totalBefore, totalKey}
+use Rattle.ieee.specs.TotalOrder.{Comparable, negative, totalBefore, keyOfBits, totalKey}
 use Rattle.ieee.proofs.TotalOrderMagnitude.{bare, toBits-sign, bare-lt, same-bits, magnitude-order}
 
 -- ---- the order by the two signs: a is whether x is the smaller in size, b whether y is
@@ -58,7 +58,7 @@ key-of t n a true e h = ap (λ (b : Bool). cond b (n + t) (2 * t - 1 - n)) (le-l
 key-of t n a false e h = ap (λ (b : Bool). cond b (n + t) (2 * t - 1 - n)) (lt-ltb n t (omega arith)) ∙ omega arith
 
 key-is : (f : Format) (x : Float) → Comparable f x → totalKey f x ≡ key (top f) (negative x) (toBits f (bare x))
-unfolding totalKey
+unfolding keyOfBits
 key-is f x v = key-of (top f) (toBits f x) (toBits f (bare x)) (negative x) (toBits-sign f x (v .number)) (bare-lt f x v)
 
 same-test : (a b c d : ℕ) → (a < b → c < d) → (b ≤ a → d ≤ c) → ltb c d ≡ ltb a b

@@ -2,7 +2,7 @@
 use mathlib.Core.Path.{_≡_, refl, sym, ap, _∙_}
 use mathlib.Core.Logic.{_⊎_, inl, inr}
 use Prim.Native.Nat.{ℕ, zero, suc, _+_, _-_, _*_, _/_, _%_, _^_, _≤_, _<_}
-use native.Mathlib.Nat.{mul-one, mul-comm, mul-right-comm, mul-assoc, mul-div-cancel, not-le-of-lt, lt-of-not-le, le-of-suc-le-suc, mul-pos, mul-lt-mul-of-pos-right, lt-of-mul-lt-mul-right}
+use native.Mathlib.Nat.{mul-one, mul-comm, mul-right-comm, mul-assoc, mul-div-cancel, not-le-of-lt, sub-add-cancel, mul-pos, mul-lt-mul-of-pos-right, lt-of-mul-lt-mul-right}
 use native.Mathlib.Omega.{arith}
 use mathlib.Core.Bool.{Bool, true, false, not, cond, _&&_}
 use lib.IntN.{ℤ, pos, negsuc}
@@ -13,7 +13,9 @@ use lib.Ieee.Fits.{and-l, and-r, neg-fits}
 use lib.Ieee.Exact.{HasValue}
 use lib.Ieee.Scale.{finite, overflow}
 use lib.Ieee.Positive.{num, den, den-pos}
+use Rattle.laws.proofs.Numbers.{le-of-not-lt}
 use Rattle.ieee.specs.Value.{one, mag, over, under, Real}
+use Rattle.ieee.specs.TotalOrder.{Comparable}
 
 pub one-pos : (f : Format) → 0 < one f
 unfolding one
@@ -63,13 +65,10 @@ scaled X o d q e D = ap (λ (z : ℕ). z * d) (ap (λ (z : ℕ). z / d) w ∙ mu
     w : X * o ≡ X * q * d
     w = ap (λ (z : ℕ). X * z) e ∙ sym (mul-assoc X q d)
 
-spare : (k l : ℕ) → k ≤ l → l - k + k ≡ l
-spare k l h = omega arith
-
 -- a power of two divides every larger one
 divides : (k l : ℕ) → 2 ^ k ≤ 2 ^ l → 2 ^ l ≡ 2 ^ (l - k) * 2 ^ k
 divides k l h =
-    ap (λ (z : ℕ). 2 ^ z) (sym (spare k l (le-of-suc-le-suc (lt-of-not-le (λ (g : suc l ≤ k). not-le-of-lt (pow-lt g) h)))))
+    ap (λ (z : ℕ). 2 ^ z) (sym (sub-add-cancel (le-of-not-lt (λ (g : l < k). not-le-of-lt (pow-lt g) h))))
     ∙ pow-add 2 (l - k) k
 
 held-down : (f : Format) (s : Bool) (m : ℕ) (e : ℤ) → T (fits f (fin s (suc m) e)) → down e ≤ 2 ^ low f
@@ -117,11 +116,12 @@ real-small {f} {x} r =
       ap (λ (z : ℕ). z * den x) (overflow-is f),
     ))
 
-pub real-not-nan : {f : Format} {x : Float} → Real f x → T (not (isNan x))
-real-not-nan {f} {x} r = go x (r .isFinite)
-  where
-    go : (x : Float) → T (finite x) → T (not (isNan x))
-    go (fin s m e) t = unfold isNan in tt
+pub finite-number : (x : Float) → T (finite x) → T (not (isNan x))
+unfolding isNan
+finite-number (fin s m e) t = tt
+
+pub real-comparable : {f : Format} {x : Float} → Real f x → Comparable f x
+real-comparable r = record { held = r .isHeld; number = finite-number _ (r .isFinite) }
 
 -- ---- the two sides of a value
 

@@ -2,9 +2,10 @@
 use mathlib.Core.Path.{_≡_, ap, subst}
 use mathlib.Core.Logic.{_↔_, _⊎_, inl, inr}
 use Prim.Native.Nat.{ℕ, zero, suc, _+_, _*_, _/_, _%_, _^_, _≤_, _<_}
-use native.Mathlib.Nat.{le-of-eq, le-of-lt, eq-or-lt-of-le, lt-of-lt-of-le, le-of-suc-le-suc, lt-of-not-le, not-le-of-lt, mul-le-mul-left, mul-le-mul-right, mul-lt-mul-of-pos-right, le-div-iff-mul-le, div-mul-le-self, div-add-mod', mod-lt, le-trans, pow-suc}
+use native.Mathlib.Nat.{le-of-eq, le-of-lt, eq-or-lt-of-le, lt-of-lt-of-le, le-of-suc-le-suc, not-le-of-lt, mul-le-mul-left, mul-le-mul-right, mul-lt-mul-of-pos-right, le-div-iff-mul-le, div-mul-le-self, div-add-mod', mod-lt, le-trans, pow-suc}
 use native.Mathlib.Omega.{arith}
 use lib.Pow.{pow-pos, pow-mono}
+use Rattle.laws.proofs.Numbers.{le-of-not-lt}
 
 -- an exponent's field and the digits below the leading one, of which there are as many as make h: a field of 0 has no leading digit
 unfoldable pub weigh : ℕ → ℕ → ℕ → ℕ
@@ -46,5 +47,5 @@ weight-lt h r k H l = go (eq-or-lt-of-le (div-le h r k H (le-of-lt l)))
 pub weight-le : (h r k : ℕ) → 0 < h → (r ≤ k) ↔ (weight h r ≤ weight h k)
 weight-le h r k H = (
   λ l. elim (eq-or-lt-of-le l) [ inl e ↦ le-of-eq (ap (weight h) e) | inr g ↦ le-of-lt (weight-lt h r k H g) ],
-  λ l. le-of-suc-le-suc (lt-of-not-le (λ (g : k < r). not-le-of-lt (weight-lt h k r H g) l)),
+  λ l. le-of-not-lt (λ (g : k < r). not-le-of-lt (weight-lt h k r H g) l),
 )

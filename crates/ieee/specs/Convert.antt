@@ -2,10 +2,9 @@
 use Prim.Native.Nat.{_*_}
 use mathlib.Core.Path.{_≡_}
 use mathlib.Core.Bool.{true, false, cond}
-use lib.Dec.{T}
 use lib.IntN.{pos}
 use lib.Ieee.{Float, nan, inf, fin, binary32, up, down, round, lt, isNan}
-use lib.Ieee.Scale.{finite}
+use Rattle.ieee.specs.Value.{Within}
 use Rattle.ieee.specs.TotalOrder.{Comparable}
 
 -- The f32 nearest to a value, a tie to the one with an even last digit. An infinity, a NaN and the sign stay.
@@ -33,8 +32,7 @@ clamped v = cond (isNan v) lowest (cond (lt v lowest) lowest (cond (lt highest v
 unfoldable pub clampedLog : Float → Float
 clampedLog v = narrowed (clamped v)
 
--- What `clamp_log` owes: r is that value, f32 holds it, and it is a number and no infinity.
+-- What `clamp_log` owes: r is that value, and an f32 that is no NaN and within ±1,000,000.
 pub record ClampedLog (v r : Float) : Type 0 where
   pub value : r ≡ clampedLog v
-  pub comparable : Comparable binary32 r
-  pub finite : T (finite r)
+  pub within : Within binary32 r 1000000

@@ -20,6 +20,10 @@ negative (fin s m e) = s
 unfoldable pub totalBefore : Float → Float → Bool
 totalBefore x y = lt x y || (negative x && not (negative y) && eq x y)
 
--- The number of a value: its pattern above all negative ones, or, with the sign set, counted down from there.
-unfoldable pub totalKey : Format → Float → ℕ
-totalKey f x = cond (ltb (toBits f x) (top f)) (toBits f x + top f) (2 * top f - 1 - toBits f x)
+-- The number of a pattern: above all negative ones, or, with the sign set, counted down from there.
+unfoldable pub keyOfBits : Format → ℕ → ℕ
+keyOfBits f bits = cond (ltb bits (top f)) (bits + top f) (2 * top f - 1 - bits)
+
+-- The number of a value: that of its pattern.
+abbrev pub totalKey : Format → Float → ℕ
+totalKey f x = keyOfBits f (toBits f x)

@@ -4,17 +4,23 @@ ghost use mathlib.Core.Path.{_≡_};
 ghost use mathlib.Core.Bool.{not};
 ghost use lib.Dec.{T};
 ghost use lib.Ieee.{binary32, isNan};
-ghost use Rattle.ieee.specs.TotalOrder.{totalKey};
+ghost use Rattle.ieee.specs.TotalOrder.{keyOfBits, totalKey};
 
-// The place of x in the total order, as a number.
-pub fn total_key(x: f32) -> u32
-    requires { ⌜ T (not (isNan x)) ⌝ }
-    ensures { λ r. ⌜ r ≡ totalKey binary32 x ⌝ }
+// The place in the total order of the value with these bits, as a number.
+pub fn key_of_bits(bits: u32) -> u32
+    ensures { λ r. ⌜ r ≡ keyOfBits binary32 bits ⌝ }
 {
-    let bits = f32::to_bits(x);
     if bits < 0x8000_0000 {
         bits + 0x8000_0000
     } else {
         0xffff_ffff - bits
     }
+}
+
+// The place of x.
+pub fn total_key(x: f32) -> u32
+    requires { ⌜ T (not (isNan x)) ⌝ }
+    ensures { λ r. ⌜ r ≡ totalKey binary32 x ⌝ }
+{
+    key_of_bits(f32::to_bits(x))
 }

@@ -3,55 +3,12 @@
 use Prim.Native.Nat.{ℕ, zero, suc, _+_, _<_}
 use native.Mathlib.Omega.{arith}
 use mathlib.Core.Path.{_≡_, refl, sym, ap, subst, _∙_}
-use mathlib.Core.List.{List, [], _∷_, _++_, map}
-use native.Mathlib.Nat.{zero-add, suc-add}
-use lib.ListN.{length, length-append}
+use mathlib.Core.List.{List, [], _∷_}
+use lib.ListN.{length, length-append, length-map}
 use Rattle.paths.specs.System.{System, Route, start, step, Way, fresh, after, Ways, none, _then_, In, last, earlier, Once, once-then, Ends, lastWay, Layered}
 use Rattle.paths.specs.Table.{gather, bring, Table, allRoutes, routeCount, At, at-first, at-next}
 use Rattle.paths.proofs.Tables.{start-ends, step-ends, Invariant, Reaching, everywhere, reached, only-table, image}
-
--- a place in joined lists, by the list that it is in
-data Split {A : Type 0} (a : A) (s t : List A) (n : ℕ) : Type 0 where
-  in-left : At a s n → Split a s t n
-  in-right : {m : ℕ} → At a t m → n ≡ length s + m → Split a s t n
-
--- a place of an image
-data Image {A B : Type 0} (f : A → B) (b : B) (s : List A) (n : ℕ) : Type 0 where
-  image-of : {a : A} → b ≡ f a → At a s n → Image f b s n
-
-module _ {A : Type 0} {a : A} where
-  at-left : {s : List A} {n : ℕ} (t : List A) → At a s n → At a (s ++ t) n
-  at-left t (at-first e) = at-first e
-  at-left t (at-next i) = at-next (at-left t i)
-
-  at-right : (s : List A) {t : List A} {n : ℕ} → At a t n → At a (s ++ t) (length s + n)
-  at-right [] {t} {n} i = subst (At a t) (sym (zero-add n)) i
-  at-right (x ∷ s) {t} {n} i = subst (At a (x ∷ (s ++ t))) (sym (suc-add (length s) n)) (at-next (at-right s i))
-
-  at-split : (s : List A) {t : List A} {n : ℕ} → At a (s ++ t) n → Split a s t n
-  at-split [] i = in-right i (sym (zero-add _))
-  at-split (x ∷ s) (at-first e) = in-left (at-first e)
-  at-split (x ∷ s) {t} (at-next i) = further (at-split s i)
-    where
-      further : {n : ℕ} → Split a s t n → Split a (x ∷ s) t (suc n)
-      further (in-left i) = in-left (at-next i)
-      further (in-right {m = m} i e) = in-right i (ap suc e ∙ sym (suc-add (length s) m))
-
-at-map : {A B : Type 0} {a : A} (f : A → B) {s : List A} {n : ℕ} → At a s n → At (f a) (map f s) n
-at-map f (at-first e) = at-first (ap f e)
-at-map f (at-next i) = at-next (at-map f i)
-
-map-at : {A B : Type 0} {b : B} (f : A → B) (s : List A) {n : ℕ} → At b (map f s) n → Image f b s n
-map-at f [] i = elim i [ ]
-map-at f (a ∷ s) (at-first e) = image-of e (at-first refl)
-map-at {b = b} f (a ∷ s) (at-next i) = further (map-at f s i)
-  where
-    further : {n : ℕ} → Image f b s n → Image f b (a ∷ s) (suc n)
-    further (image-of e i) = image-of e (at-next i)
-
-length-map : {A B : Type 0} (f : A → B) (s : List A) → length (map f s) ≡ length s
-length-map f [] = refl
-length-map f (a ∷ s) = ap suc (length-map f s)
+use Rattle.paths.proofs.ListPlaces.{Split, in-left, in-right, Image, image-of, at-left, at-right, at-split, at-map, map-at}
 
 -- a route's place, whichever it is
 abbrev Listed : {X E : Type 0} → Route X E → List (Route X E) → Type 0
@@ -180,7 +137,7 @@ module _ {X E W : Type 0} (S : System X E W) (layered : Layered S) (t : X → Li
   unfolding allRoutes routeCount
   counts-table =
       image S allRoutes routeCount t length
-      record { nothing = refl; join = length-append; begins = λ x. refl; along = λ y e. length-map (λ r. step r e) (t y) } is
+      record { nothing = refl; join = length-append; begins = λ x. refl; along = λ y e. length-map (t y) (λ r. step r e) } is
 
   -- the number of routes is the length of their list
   pub counts-length : (counts : X → ℕ) → Table S routeCount counts → (x : X) → counts x ≡ length (t x)

@@ -1,14 +1,13 @@
 -- The answer of the search meets demand 3, for every phrase whose figures keep to bounds that leave room. Assumes nothing.
 use mathlib.Core.Path.{_≡_, refl}
-use mathlib.Core.Bool.{Bool, true, false, cond}
-use mathlib.Core.List.{List, [], _∷_}
+use mathlib.Core.List.{List}
 use Prim.Native.Nat.{ℕ}
-use lib.Dec.{T, lit≤}
+use lib.Dec.{lit≤}
 use lib.ListN.{length}
+use Rattle.laws.proofs.Tests.{by-choice}
 use Rattle.phrase.specs.Phrase.{Phrase}
 use Rattle.paths.specs.declared.passes.Strictness.the-variants.{Strict, Relaxed}
 use Rattle.paths.specs.declared.passes.Pass.{Pass}
-use Rattle.paths.specs.declared.passes.Pass.the-variants.{CountStrict, CountRelaxed, NucleiRelaxed}
 use Rattle.paths.specs.Problem.{Problem}
 use Rattle.paths.specs.Path.{Path}
 use Rattle.paths.specs.Cell.{Cell, empty, held}
@@ -48,12 +47,11 @@ module _ {most : Ranges} {phrase : Phrase} {columns : List ℕ} (room : Room mos
   PassFigures pass = Figures (passProblem phrase pass columns) (fillerBound most) (stepBound most)
 
   figures : Each PassFigures (inOrder phrase)
-  figures = each-of (phrase-figures room (bounded .nuclei) Strict) (go (nonEmpty (phrase .added .anchors)) (λ t. t))
-    where
-      go : (b : Bool) → (T b → T (nonEmpty (phrase .added .anchors))) → Each PassFigures (cond b (CountStrict ∷ CountRelaxed ∷ []) (NucleiRelaxed ∷ []))
-      go true exists =
-          each-of (phrase-figures room (bounded .added (exists tt)) Strict) (each-of (phrase-figures room (bounded .added (exists tt)) Relaxed) all-done)
-      go false exists = each-of (phrase-figures room (bounded .nuclei) Relaxed) all-done
+  figures =
+      each-of (phrase-figures room (bounded .nuclei) Strict)
+      (by-choice (Each PassFigures) (nonEmpty (phrase .added .anchors))
+      (λ exists. each-of (phrase-figures room (bounded .added exists) Strict) (each-of (phrase-figures room (bounded .added exists) Relaxed) all-done))
+      (λ none. each-of (phrase-figures room (bounded .nuclei) Relaxed) all-done))
 
   -- the answer by the cell rule is as demanded
   pub chosen-demanded : Demanded phrase columns (chosen phrase columns)

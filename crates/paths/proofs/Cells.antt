@@ -4,6 +4,7 @@ use native.Mathlib.Omega.{arith}
 use mathlib.Core.Path.{_≡_, refl, ap, ap₂, subst, _∙_}
 use mathlib.Core.Bool.{Bool, true, false, not, cond}
 use lib.Dec.{T}
+use Rattle.laws.proofs.Tests.{by-choice}
 use Rattle.paths.specs.Cell.{Cell, empty, held, keep, best, carry, only}
 
 -- what the cell holds, if anything, is P
@@ -45,11 +46,7 @@ module _ {A : Type 0} (less : A → A → Bool) where
   unfolding keep
   every-keep every-empty later = later
   every-keep (every-held p) every-empty = every-held p
-  every-keep {P = P} (every-held {a = a} p) (every-held {a = b} q) = go (less a b)
-    where
-      go : (t : Bool) → Every P (cond t (held b) (held a))
-      go true = every-held q
-      go false = every-held p
+  every-keep {P = P} (every-held {a = a} p) (every-held {a = b} q) = by-choice (Every P) (less a b) (λ t. every-held q) (λ t. every-held p)
 
   -- P passes from what is held to what replaces it
   pub some-keep :
@@ -57,11 +54,8 @@ module _ {A : Type 0} (less : A → A → Bool) where
       Every R c → Every R d → Some P c → Some P (keep less c d)
   unfolding keep
   some-keep up rc every-empty (some-held p) = some-held p
-  some-keep {P = P} up rc (every-held {a = b} rb) (some-held {a = a} p) = go (less a b) (up a b (every-at rc refl) rb)
-    where
-      go : (t : Bool) → (T t → P a → P b) → Some P (cond t (held b) (held a))
-      go true f = some-held (f tt p)
-      go false f = some-held p
+  some-keep {P = P} up rc (every-held {a = b} rb) (some-held {a = a} p) =
+      by-choice (Some P) (less a b) (λ t. some-held (up a b (every-at rc refl) rb t p)) (λ t. some-held p)
 
   -- P passes from what does not replace to what stays
   pub some-keep-later :
@@ -69,11 +63,8 @@ module _ {A : Type 0} (less : A → A → Bool) where
       Every R c → Every R d → Some P d → Some P (keep less c d)
   unfolding keep
   some-keep-later stay every-empty rd (some-held p) = some-held p
-  some-keep-later {P = P} stay (every-held {a = a} ra) rd (some-held {a = b} p) = go (less a b) (stay a b ra (every-at rd refl))
-    where
-      go : (t : Bool) → (T (not t) → P b → P a) → Some P (cond t (held b) (held a))
-      go true f = some-held p
-      go false f = some-held (f tt p)
+  some-keep-later {P = P} stay (every-held {a = a} ra) rd (some-held {a = b} p) =
+      by-choice (Some P) (less a b) (λ t. some-held p) (λ t. some-held (stay a b ra (every-at rd refl) t p))
 
   pub keep-empty : (c : Cell A) → keep less c empty ≡ c
   unfolding keep

@@ -2,12 +2,14 @@
 -- path wherever a pass admits one meets it. Assumes nothing.
 use mathlib.Core.Path.{_≡_, refl, sym, subst, subst₂}
 use mathlib.Core.Logic.{_↔_}
-use mathlib.Core.Bool.{Bool, true, false, not, cond, _&&_}
-use mathlib.Core.List.{List, [], _∷_}
+use mathlib.Core.Bool.{cond, _&&_}
+use mathlib.Core.List.{List, _∷_}
 use Prim.Native.Nat.{ℕ}
 use lib.Dec.{T, T-not}
 use lib.ListN.{length}
 use lib.Ieee.{Float, eq}
+use lib.Ieee.Fits.{and-i, and-l, and-r}
+use Rattle.laws.proofs.Tests.{by-choice}
 use Rattle.phrase.specs.Phrase.{Phrase}
 use Rattle.paths.specs.declared.passes.Pass.{Pass}
 use Rattle.paths.specs.Problem.{Problem}
@@ -18,7 +20,6 @@ use Rattle.paths.specs.Demand.{Answer, found, none, unvoiced, Admits, Ad
 use Rattle.paths.specs.Search.{Rule, orElse, searchBy}
 use Rattle.paths.specs.Finite.{Finite}
 use Rattle.paths.proofs.Optimal.{best-sums-equal}
-use Rattle.paths.proofs.Tests.{both, left-half, right-half}
 
 -- ---- the demand leaves one answer
 
@@ -113,27 +114,21 @@ module _ (rule : Rule) (phrase : Phrase) (columns : List ℕ) where
 
   -- with no path, the word
   word : (T (hasNucleus phrase) → T (speaks (phrase .speech)) → Each (AdmitsNone phrase columns) (inOrder phrase)) → Demanded phrase columns (cond (hasNucleus phrase) none unvoiced)
-  word missing = go (hasNucleus phrase) refl
-    where
-      go : (b : Bool) → hasNucleus phrase ≡ b → Demanded phrase columns (cond b none unvoiced)
-      go true e = let nucleus = subst T (sym e) tt in no-path nucleus (missing nucleus)
-      go false e = no-nucleus (subst (λ (b : Bool). T (not b)) (sym e) tt)
+  word missing = by-choice (Demanded phrase columns) (hasNucleus phrase) (λ nucleus. no-path nucleus (missing nucleus)) (λ none. no-nucleus none)
 
   pub search-demanded : Each Sound (inOrder phrase) → Demanded phrase columns (searchBy rule phrase columns (passes phrase))
   unfolding passes searchBy
-  search-demanded sound = go (speaks (phrase .speech) && hasNucleus phrase) (λ t. t) (λ t. t)
+  search-demanded sound =
+      by-choice (λ (order : List Pass). Demanded phrase columns (searchBy rule phrase columns order)) (speaks (phrase .speech) && hasNucleus phrase)
+      (λ t. all-searched t (walked sound))
+      (λ no. word (λ nucleus speech. absurd (T-not (speaks (phrase .speech) && hasNucleus phrase) no (and-i (speaks (phrase .speech)) (hasNucleus phrase) speech nucleus))))
     where
       all-searched : T (speaks (phrase .speech) && hasNucleus phrase) → {answer : Answer} → Walked (inOrder phrase) answer → Demanded phrase columns answer
       all-searched t (first-found first best) = a-path (record {
-        speech = left-half (speaks (phrase .speech)) (hasNucleus phrase) t;
-        nucleus = right-half (speaks (phrase .speech)) (hasNucleus phrase) t;
+        speech = and-l (speaks (phrase .speech)) (hasNucleus phrase) t;
+        nucleus = and-r (speaks (phrase .speech)) (hasNucleus phrase) t;
         first = first;
         best = best;
         summed = refl;
       })
       all-searched t (none-found missing) = word (λ nucleus speech. missing)
-
-      go : (b : Bool) → (T b → T (speaks (phrase .speech) && hasNucleus phrase)) → (T (speaks (phrase .speech) && hasNucleus phrase) → T b)
-          → Demanded phrase columns (searchBy rule phrase columns (cond b (inOrder phrase) []))
-      go true t back = all-searched (t tt) (walked sound)
-      go false t back = word (λ nucleus speech. absurd (back (both (speaks (phrase .speech)) (hasNucleus phrase) speech nucleus)))

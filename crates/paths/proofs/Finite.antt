@@ -1,5 +1,5 @@
 -- Every value and every sum of an admitted path is finite: each figure has a whole-number bound, and they add up. Assumes nothing.
-use Prim.Native.Nat.{ℕ, suc, _+_, _*_, _^_, _≤_, _<_}
+use Prim.Native.Nat.{ℕ, suc, _+_, _*_, _^_, _≤_}
 use native.Mathlib.Nat.{mul-le-mul-right, suc-mul}
 use native.Mathlib.Omega.{arith}
 use lib.Ieee.{binary64, prec}
@@ -9,13 +9,7 @@ use Rattle.paths.specs.Problem.{Problem}
 use Rattle.paths.specs.Path.{Path, end, Admitted, begins, gaps, units, value, sum}
 use Rattle.paths.specs.Bounded.{Figures}
 use Rattle.paths.specs.Finite.{Finite}
-
--- an admitted path stands at one of the boundaries
-end-below : {q : Problem} {p : Path} → Admitted q p → end p < q .size
-unfolding end
-end-below (begins h) = h
-end-below (gaps a h) = h
-end-below (units a h k ok) = k
+use Rattle.paths.proofs.PathRoutes.{end-inside}
 
 module _ {q : Problem} {edge step : ℕ} (figures : Figures q edge step) where
   -- there is room up to each boundary
@@ -36,8 +30,8 @@ module _ {q : Problem} {edge step : ℕ} (figures : Figures q edge step) where
   sum-within : {p : Path} → Admitted q p → Within binary64 (sum q p) (edge + end p * step + edge)
   unfolding sum
   sum-within {p} a =
-      sub-within (value-within a) (figures .stops (end p) (end-below a))
-      (omega (arith, figures .room, mul-le-mul-right {m = end p} {n = q .size} step (omega (arith, end-below a))))
+      sub-within (value-within a) (figures .stops (end p) (end-inside a))
+      (omega (arith, figures .room, mul-le-mul-right {m = end p} {n = q .size} step (omega (arith, end-inside a))))
 
   pub finite : (k : ℕ) → Finite q k
   finite k = record {

@@ -1,7 +1,6 @@
 -- Frames in increasing order, and speech counts: they add up over neighbouring stretches, and never pass the mask's length.
 -- Assumes nothing.
 use mathlib.Core.Path.{_≡_, sym, ap, _∙_}
-use mathlib.Core.Bool.{Bool, true, false, cond}
 use mathlib.Core.List.{List}
 use Prim.Native.Nat.{ℕ, zero, suc, _+_, _-_, _≤_, _<_, min}
 use native.Mathlib.Nat.{add-zero, add-suc, add-assoc, le-trans, le-refl, le-of-lt, add-sub-of-le}
@@ -9,6 +8,7 @@ use native.Mathlib.Decide.{le-ind}
 use native.Mathlib.Omega.{arith}
 use lib.Dec.{eqb}
 use lib.ListN.{length, getD}
+use Rattle.laws.proofs.Tests.{by-choice}
 use Rattle.paths.specs.Frames.{Increasing, weight, speechFrom, speechIn}
 
 -- a list in increasing order, at any two places
@@ -19,11 +19,7 @@ increasing-le frames increasing i j h =
 
 pub weight-le : (byte : ℕ) → weight byte ≤ 1
 unfolding weight
-weight-le byte = go (eqb byte 0)
-  where
-    go : (b : Bool) → cond b 0 1 ≤ 1
-    go true = omega arith
-    go false = omega arith
+weight-le byte = by-choice (λ (n : ℕ). n ≤ 1) (eqb byte 0) (λ t. omega arith) (λ t. omega arith)
 
 pub speechFrom-le : (mask : List ℕ) (from n : ℕ) → speechFrom mask from n ≤ n
 unfolding speechFrom

@@ -3,8 +3,8 @@
 use Prim.Native.Nat.{ℕ, zero, suc, _≤_, _<_}
 use native.Mathlib.Omega.{arith}
 use mathlib.Core.Path.{_≡_, refl, sym, ap, ap₂, fun-ext, _∙_}
-use mathlib.Core.Bool.{Bool, true, false}
 use lib.Dec.{T}
+use Rattle.laws.proofs.Tests.{by-choice}
 use Rattle.paths.specs.Problem.{Problem}
 use Rattle.paths.specs.Cell.{Cell, held, keep, best, carry, only}
 use Rattle.paths.specs.CellRule.{Keeping, sweep, arrival, rows}
@@ -30,11 +30,9 @@ module _ {A : Type 0} (q : Problem) (kept : Keeping A) (P : ℕ → ℕ → A �
       Every (P (suc s) j) (best (kept .less) m (arrival q kept s (rows q kept s) j))
   unfolding best arrival only
   arrived-below s j zero l every = every-empty
-  arrived-below s j (suc m) l every = every-keep (kept .less) (arrived-below s j m (omega arith) every) (go (q .unitOk m j) (λ t. t))
-    where
-      go : (b : Bool) → (T b → T (q .unitOk m j)) → Every (P (suc s) j) (only b (carry (kept .overUnit s m j) (rows q kept s m)))
-      go true ok = every-carry (kept .overUnit s m j) (rows q kept s m) (λ a e. carried .units s m j a l (ok tt) e) (every m)
-      go false ok = every-empty
+  arrived-below s j (suc m) l every = every-keep (kept .less) (arrived-below s j m (omega arith) every)
+      (by-choice (Every (P (suc s) j)) (q .unitOk m j)
+      (λ ok. every-carry (kept .overUnit s m j) (rows q kept s m) (λ a e. carried .units s m j a l ok e) (every m)) (λ barred. every-empty))
 
   -- P holds of what every cell holds
   pub rows-every : (s j : ℕ) → Every (P s j) (rows q kept s j)

@@ -1,10 +1,11 @@
 -- What is proved of layered systems in general, of paths and the cell rule, and of the problems of a phrase.
-mod Tests
 pub mod Cells
 pub mod Tables
 pub mod BestRoutes
 pub mod NotedRoutes
+mod ListPlaces
 pub mod AllRoutes
+mod WaysBelow
 pub mod PathWays
 pub mod PathRoutes
 pub mod Rows
@@ -15,7 +16,9 @@ pub mod Marks
 pub mod PathUnits
 pub mod Examples
 pub mod Frames
+mod Select
 pub mod Anchors
+pub mod Rising
 pub mod LookAhead
 pub mod Demanded
 pub mod Finite

@@ -2,57 +2,27 @@
 -- and that a unit barred for its length, or for a second anchor, stays barred however much further it goes. Assumes nothing.
 use mathlib.Core.Logic.{_⊎_, inl, inr}
 use mathlib.Core.Path.{_≡_, refl, sym, ap, _∙_}
-use mathlib.Core.Bool.{Bool, true, false, cond, _&&_, and-false}
+use mathlib.Core.Bool.{Bool, false, cond, _&&_, and-false}
 use mathlib.Core.List.{List, [], _∷_, tail}
-use Prim.Native.Nat.{ℕ, suc, _-_, _≤_, _<_, suc-le-suc}
+use Prim.Native.Nat.{ℕ, _-_, _≤_, _<_}
 use native.Mathlib.Nat.{le-trans, le-refl, not-le-of-lt}
 use native.Mathlib.Omega.{arith}
 use lib.Dec.{leb, ltb, leb→le, nleb→lt}
-use lib.ListN.{length, getD}
+use lib.ListN.{length}
 use borrow.Author.Tests.{le-leb, lt-leb, lt-ltb, le-ltb, ne-eqb}
 use Rattle.phrase.specs.Phrase.{Phrase, Stage}
 use Rattle.paths.specs.declared.passes.Strictness.{Strictness}
 use Rattle.paths.specs.declared.passes.Strictness.the-variants.{Strict, Relaxed}
-use Rattle.paths.specs.Frames.{Increasing, within}
-use Rattle.paths.specs.Anchors.{Anchor, select, numbered, keptIn, kept, heldIn}
+use Rattle.paths.specs.Frames.{Increasing}
+use Rattle.paths.specs.Anchors.{Anchor, select, kept, heldIn}
 use Rattle.paths.specs.Units.{longestUnit, fitsUnit, mayHold, admitsUnit}
 use Rattle.paths.specs.StageProblem.{scoreOf, boundary, problemOf}
 use Rattle.paths.specs.LookAhead.{ahead, frameOr, rowOr, firstAhead, secondAhead, rowAhead, takenIn}
-use Rattle.paths.proofs.Tests.{by-test}
+use Rattle.laws.proofs.Tests.{by-test}
 use Rattle.paths.proofs.Frames.{increasing-le}
-use Rattle.paths.proofs.Anchors.{select-select, heldIn-more}
-
--- ---- kept anchors stand in the order of their frames
-
--- anchors from a frame on, in strictly increasing order
-pub data Rising : ℕ → List Anchor → Type 0 where
-  no-more : {low : ℕ} → Rising low []
-  and-then : {low : ℕ} {anchor : Anchor} {anchors : List Anchor} → low ≤ anchor .frame → Rising (suc (anchor .frame)) anchors → Rising low (anchor ∷ anchors)
-
-rising-from : {low lower : ℕ} {anchors : List Anchor} → lower ≤ low → Rising low anchors → Rising lower anchors
-rising-from h no-more = no-more
-rising-from h (and-then g r) = and-then (le-trans h g) r
-
-rising-select : (test : Anchor → Bool) {low : ℕ} {anchors : List Anchor} → Rising low anchors → Rising low (select test anchors)
-unfolding select
-rising-select test no-more = no-more
-rising-select test (and-then {low = low} {anchor = anchor} {anchors = anchors} h r) = go (test anchor) (rising-select test r)
-  where
-    go : (b : Bool) → Rising (suc (anchor .frame)) (select test anchors) → Rising low (cond b (anchor ∷ select test anchors) (select test anchors))
-    go true s = and-then h s
-    go false s = rising-from (omega arith) s
-
-rising-numbered : (low row : ℕ) (frames : List ℕ) → (0 < length frames → low ≤ getD frames 0 0) → Increasing frames → Rising low (numbered row frames)
-unfolding numbered
-rising-numbered low row [] h increasing = no-more
-rising-numbered low row (frame ∷ frames) h increasing =
-    and-then (h (omega arith))
-    (rising-numbered (suc frame) (suc row) frames (λ more. increasing 0 (suc-le-suc more)) (λ i more. increasing (suc i) (suc-le-suc more)))
-
-pub kept-rising : (mask : List ℕ) (row : ℕ) (frames : List ℕ) → Increasing frames → Rising 0 (keptIn mask row frames)
-unfolding keptIn
-kept-rising mask row frames increasing =
-    rising-select (λ anchor. within mask (anchor .frame)) (rising-numbered 0 row frames (λ more. omega arith) increasing)
+use Rattle.paths.proofs.Select.{select-select}
+use Rattle.paths.proofs.Anchors.{heldIn-more}
+use Rattle.paths.proofs.Rising.{Rising, no-more, and-then, rising-select}
 
 -- ---- the anchors before a frame, of those ahead
 

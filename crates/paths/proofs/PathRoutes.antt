@@ -7,6 +7,13 @@ use Rattle.paths.specs.Path.{Path, begin, gap, unit, end, count, value, 
 use Rattle.paths.specs.System.{Route, start, step, Runs, opening, going, stateOf, valueOf}
 use Rattle.paths.specs.PathSystem.{State, on, done, Move, byGap, byUnit, stop, opens, allows, leads, next, pathSystem, route}
 
+-- where an admitted path stands
+pub end-inside : {q : Problem} {p : Path} → Admitted q p → end p < q .size
+unfolding end
+end-inside (begins l) = l
+end-inside (gaps a l) = l
+end-inside (units a l b ok) = b
+
 module _ (q : Problem) (k : ℕ) where
   pub route-state : (p : Path) → stateOf (pathSystem q k) (route p) ≡ on (count p) (end p)
   unfolding route stateOf count end
@@ -27,13 +34,6 @@ module _ (q : Problem) (k : ℕ) where
   pub ended-state : (p : Path) → stateOf (pathSystem q k) (step (route p) stop) ≡ done (count p)
   unfolding stateOf
   ended-state p = ap (λ x. leads x stop) (route-state p)
-
-  -- where an admitted path stands
-  pub end-inside : {p : Path} → Admitted q p → end p < q .size
-  unfolding end
-  end-inside (begins l) = l
-  end-inside (gaps a l) = l
-  end-inside (units a l b ok) = b
 
   allow :
       (p : Path) (e : Move) → allows q k (on (count p) (end p)) e → allows q k (stateOf (pathSystem q k) (route p)) e

@@ -1,13 +1,14 @@
 -- The path problem is a layered system: the ways into each of its states are exactly those that paths come by, each once.
 use Prim.Native.Nat.{ℕ, zero, suc, _≤_, _<_, zero-le}
 use native.Mathlib.Omega.{arith}
-use mathlib.Core.Path.{_≡_, refl, sym, ap, subst}
-use mathlib.Core.Bool.{Bool, true, false, cond, not, _&&_}
-use lib.Dec.{T, leb, ltb, leb→le, le→leb, ltb→lt, lt→ltb, nltb→le}
+use mathlib.Core.Path.{_≡_, refl, sym, subst}
+use mathlib.Core.Bool.{Bool, true, false, cond, _&&_}
+use lib.Dec.{T, leb, ltb, leb→le, le→leb, ltb→lt, lt→ltb}
+use lib.Ieee.Fits.{and-i, and-l, and-r}
 use Rattle.paths.specs.Problem.{Problem}
-use Rattle.paths.proofs.Tests.{by-test, both, left-half, right-half}
 use Rattle.paths.specs.System.{Way, Ways, none, _then_, fresh, after, In, last, earlier, Once, once-none, once-then, Layered}
-use Rattle.paths.specs.PathSystem.{State, on, done, Move, byGap, byUnit, stop, opens, allows, leads, unitWays, stopWays, waysIn, waysOf, pathSystem}
+use Rattle.paths.specs.PathSystem.{State, on, done, Move, byGap, byUnit, stop, opens, allows, leads, stopWays, waysIn, waysOf, pathSystem}
+use Rattle.paths.proofs.WaysBelow.{Below, below, ways-below, in-below, below-once}
 
 -- the ways into each state, as a rule
 pub data Arrives (q : Problem) (k : ℕ) : State → Way State Move → Type 0 where
@@ -16,86 +17,8 @@ pub data Arrives (q : Problem) (k : ℕ) : State → Way State Move → Type 0 w
   by-unit : {s i j : ℕ} → s < k → i < j → j < q .size → T (q .unitOk i j) → Arrives q k (on (suc s) j) (after (on s i) (byUnit j))
   by-stop : {s j : ℕ} → s ≤ k → j < q .size → Arrives q k (done s) (after (on s j) stop)
 
--- a unit from a boundary below m
-data UnitBelow (q : Problem) (s j m : ℕ) : Way State Move → Type 0 where
-  unit-below : {i : ℕ} → i < m → T (q .unitOk i j) → UnitBelow q s j m (after (on s i) (byUnit j))
-
-data StopBelow (s m : ℕ) : Way State Move → Type 0 where
-  stop-below : {i : ℕ} → i < m → StopBelow s m (after (on s i) stop)
-
-module _ (q : Problem) (s j : ℕ) where
-  unit-wider : {m : ℕ} {w : Way State Move} → UnitBelow q s j m w → UnitBelow q s j (suc m) w
-  unit-wider (unit-below {i = i} l ok) = unit-below {i = i} (omega arith) ok
-
-  unit-ways : (m : ℕ) {w : Way State Move} → In w (unitWays q s j m) → UnitBelow q s j m w
-  unfolding unitWays
-  unit-ways zero i = elim i [ ]
-  unit-ways (suc m) {w} i = go (q .unitOk m j) (λ t. t) (unit-ways m {w = w}) i
-    where
-      go :
-          (b : Bool) → (T b → T (q .unitOk m j)) → (In w (unitWays q s j m) → UnitBelow q s j m w) →
-          In w (cond b (unitWays q s j m then after (on s m) (byUnit j)) (unitWays q s j m)) → UnitBelow q s j (suc m) w
-      go true ok below (last e) = subst (UnitBelow q s j (suc m)) (sym e) (unit-below {i = m} (omega arith) (ok tt))
-      go true ok below (earlier i) = unit-wider (below i)
-      go false ok below i = unit-wider (below i)
-
-  unit-in : (m i : ℕ) → i < m → T (q .unitOk i j) → In (after (on s i) (byUnit j)) (unitWays q s j m)
-  unfolding unitWays
-  unit-in zero i l ok = absurd (omega arith)
-  unit-in (suc m) i l ok =
-      by-test (ltb i m) (λ t. below (q .unitOk m j) (unit-in m i (ltb→lt i m t) ok))
-      (λ t. at (q .unitOk m j) (i-is t) (subst (λ z. T (q .unitOk z j)) (i-is t) ok))
-    where
-      i-is : T (not (ltb i m)) → i ≡ m
-      i-is t = omega (arith, nltb→le i m t)
-
-      below : (b : Bool) → In (after (on s i) (byUnit j)) (unitWays q s j m) →
-          In (after (on s i) (byUnit j)) (cond b (unitWays q s j m then after (on s m) (byUnit j)) (unitWays q s j m))
-      below true i = earlier i
-      below false i = i
-
-      at :
-          (b : Bool) → i ≡ m → T b →
-          In (after (on s i) (byUnit j)) (cond b (unitWays q s j m then after (on s m) (byUnit j)) (unitWays q s j m))
-      at true e t = last (ap (λ z. after (on s z) (byUnit j)) e)
-      at false e t = absurd t
-
-  unit-once : (m : ℕ) → Once (unitWays q s j m)
-  unfolding unitWays
-  unit-once zero = once-none
-  unit-once (suc m) = go (q .unitOk m j) (unit-once m)
-    where
-      go : (b : Bool) → Once (unitWays q s j m) → Once (cond b (unitWays q s j m then after (on s m) (byUnit j)) (unitWays q s j m))
-      go true once = once-then once (λ i. not-below (unit-ways m i) refl)
-        where
-          not-below : {w : Way State Move} → UnitBelow q s j m w → after (on s m) (byUnit j) ≡ w → ⊥
-          not-below (unit-below {i = i} l ok) e = let z : m ≡ i = cc in omega arith
-      go false once = once
-
-module _ (s : ℕ) where
-  stop-ways : (m : ℕ) {w : Way State Move} → In w (stopWays s m) → StopBelow s m w
-  unfolding stopWays
-  stop-ways zero i = elim i [ ]
-  stop-ways (suc m) (last e) = subst (StopBelow s (suc m)) (sym e) (stop-below {i = m} (omega arith))
-  stop-ways (suc m) (earlier i) = wider (stop-ways m i)
-    where
-      wider : {w : Way State Move} → StopBelow s m w → StopBelow s (suc m) w
-      wider (stop-below {i = i} l) = stop-below {i = i} (omega arith)
-
-  stop-in : (m i : ℕ) → i < m → In (after (on s i) stop) (stopWays s m)
-  unfolding stopWays
-  stop-in zero i l = absurd (omega arith)
-  stop-in (suc m) i l =
-      by-test (ltb i m) (λ t. earlier (stop-in m i (ltb→lt i m t)))
-      (λ t. let e : i ≡ m = omega (arith, nltb→le i m t) in last (ap (λ z. after (on s z) stop) e))
-
-  stop-once : (m : ℕ) → Once (stopWays s m)
-  unfolding stopWays
-  stop-once zero = once-none
-  stop-once (suc m) = once-then (stop-once m) (λ i. not-below (stop-ways m i) refl)
-    where
-      not-below : {w : Way State Move} → StopBelow s m w → after (on s m) stop ≡ w → ⊥
-      not-below (stop-below {i = i} l) e = let z : m ≡ i = cc in omega arith
+same-origin : {s i j : ℕ} {e : Move} → after (on s i) e ≡ after (on s j) e → i ≡ j
+same-origin h = cc
 
 -- what stands behind a guard
 guarded : {P : Type 0} {w : Way State Move} (b : Bool) (ws : Ways State Move) → (T b → In w ws → P) → In w (cond b ws none) → P
@@ -120,23 +43,23 @@ module _ (q : Problem) (k : ℕ) where
   arrives-on zero (suc j) a b (earlier (earlier i)) = elim i [ ]
   arrives-on (suc s) zero a b i = elim i [ ]
   arrives-on (suc s) (suc j) a b (last e) = subst (Arrives q k (on (suc s) (suc j))) (sym e) (by-gap a b)
-  arrives-on (suc s) (suc j) a b (earlier i) = go (unit-ways q s (suc j) (suc j) i)
+  arrives-on (suc s) (suc j) a b (earlier i) = go (ways-below _ _ (suc j) i)
     where
-      go : {w : Way State Move} → UnitBelow q s (suc j) (suc j) w → Arrives q k (on (suc s) (suc j)) w
-      go (unit-below l ok) = by-unit a l b ok
+      go : {w : Way State Move} → Below (λ i. q .unitOk i (suc j)) (λ i. after (on s i) (byUnit (suc j))) (suc j) w → Arrives q k (on (suc s) (suc j)) w
+      go (below l ok) = by-unit a l b ok
 
   pub arrives : (x : State) {w : Way State Move} → In w (waysOf q k x) → Arrives q k x w
   unfolding waysOf
   arrives (on s j) =
       guarded (leb s k && ltb j (q .size)) (waysIn q s j)
-      (λ t. arrives-on s j (leb→le s k (left-half (leb s k) (ltb j (q .size)) t)) (ltb→lt j (q .size) (right-half (leb s k) (ltb j (q .size)) t)))
-  arrives (done s) {w} = guarded (leb s k) (stopWays s (q .size)) (λ t i. go (leb→le s k t) (stop-ways s (q .size) i))
+      (λ t. arrives-on s j (leb→le s k (and-l (leb s k) (ltb j (q .size)) t)) (ltb→lt j (q .size) (and-r (leb s k) (ltb j (q .size)) t)))
+  arrives (done s) {w} = guarded (leb s k) (stopWays s (q .size)) (λ t i. go (leb→le s k t) (ways-below _ _ (q .size) i))
     where
-      go : {w : Way State Move} → s ≤ k → StopBelow s (q .size) w → Arrives q k (done s) w
-      go h (stop-below l) = by-stop h l
+      go : {w : Way State Move} → s ≤ k → Below (λ i. true) (λ i. after (on s i) stop) (q .size) w → Arrives q k (done s) w
+      go h (below l t) = by-stop h l
 
   pub on-guard : (s j : ℕ) → s ≤ k → j < q .size → T (leb s k && ltb j (q .size))
-  on-guard s j a b = both (leb s k) (ltb j (q .size)) (le→leb s k a) (lt→ltb j (q .size) b)
+  on-guard s j a b = and-i (leb s k) (ltb j (q .size)) (le→leb s k a) (lt→ltb j (q .size) b)
 
   gap-last : (s j : ℕ) → In (after (on s j) byGap) (waysIn q s (suc j))
   unfolding waysIn
@@ -146,7 +69,7 @@ module _ (q : Problem) (k : ℕ) where
   unit-earlier : (s i j : ℕ) → i < j → T (q .unitOk i j) → In (after (on s i) (byUnit j)) (waysIn q (suc s) j)
   unfolding waysIn
   unit-earlier s i zero l ok = absurd (omega arith)
-  unit-earlier s i (suc j) l ok = earlier (unit-in q s (suc j) (suc j) i l ok)
+  unit-earlier s i (suc j) l ok = earlier (in-below _ _ (suc j) i l ok)
 
   start-first : (j : ℕ) → In fresh (waysIn q zero j)
   unfolding waysIn
@@ -159,10 +82,10 @@ module _ (q : Problem) (k : ℕ) where
   arrives-in (by-gap {s = s} {j = j} a l) = unguarded (leb s k && ltb (suc j) (q .size)) _ (on-guard s (suc j) a l) (gap-last s j)
   arrives-in (by-unit {s = s} {i = i} {j = j} a l b ok) =
       unguarded (leb (suc s) k && ltb j (q .size)) _ (on-guard (suc s) j a b) (unit-earlier s i j l ok)
-  arrives-in (by-stop {s = s} {j = j} a l) = unguarded (leb s k) _ (le→leb s k a) (stop-in s (q .size) j l)
+  arrives-in (by-stop {s = s} {j = j} a l) = unguarded (leb s k) _ (le→leb s k a) (in-below _ _ (q .size) j l tt)
 
   ways-once : (x : State) → Once (waysOf q k x)
-  unfolding waysOf
+  unfolding waysOf waysIn
   ways-once (on s j) = guarded-once (leb s k && ltb j (q .size)) _ (go s j)
     where
       only-start : Once {X = State} {E = Move} (none then fresh)
@@ -172,8 +95,8 @@ module _ (q : Problem) (k : ℕ) where
       apart w (last e) = e
       apart w (earlier i) = elim i [ ]
 
-      not-unit : {s j : ℕ} {y : State} {w : Way State Move} → UnitBelow q s j j w → w ≡ after y byGap → ⊥
-      not-unit (unit-below l ok) e = let z : _≡_ {A = ℕ} 0 1 = cc in omega arith
+      not-unit : {s j : ℕ} {y : State} {w : Way State Move} → Below (λ i. q .unitOk i j) (λ i. after (on s i) (byUnit j)) j w → w ≡ after y byGap → ⊥
+      not-unit (below l ok) e = let z : _≡_ {A = ℕ} 0 1 = cc in omega arith
 
       go : (s j : ℕ) → Once (waysIn q s j)
       go zero zero = only-start
@@ -181,8 +104,8 @@ module _ (q : Problem) (k : ℕ) where
           once-then {u = after (on zero j) byGap} only-start
           (λ i. let f = apart (after (on zero j) byGap) i in let z : _≡_ {A = ℕ} 0 1 = cc in omega arith)
       go (suc s) zero = once-none
-      go (suc s) (suc j) = once-then (unit-once q s (suc j) (suc j)) (λ i. not-unit (unit-ways q s (suc j) (suc j) i) refl)
-  ways-once (done s) = guarded-once (leb s k) _ (stop-once s (q .size))
+      go (suc s) (suc j) = once-then (below-once _ _ (λ i l. same-origin) (suc j)) (λ i. not-unit (ways-below _ _ (suc j) i) refl)
+  ways-once (done s) = guarded-once (leb s k) _ (below-once _ _ (λ i l. same-origin) (q .size))
 
   rank : State → ℕ
   rank (on s j) = j

@@ -1,5 +1,5 @@
 -- The figures of a stage's problem keep to whole-number bounds where those of the phrase do. Assumes nothing.
-use mathlib.Core.Bool.{Bool, true, false, cond}
+use mathlib.Core.Bool.{Bool}
 use mathlib.Core.List.{List, [], _∷_}
 use Prim.Native.Nat.{ℕ, suc, _+_, _-_, _*_, _^_, _≤_, _<_}
 use native.Mathlib.Nat.{le-trans, mul-le-mul-left, mul-le-mul-right}
@@ -7,6 +7,8 @@ use native.Mathlib.Omega.{arith}
 use lib.Dec.{T, leb, leb→le}
 use lib.ListN.{length, getD}
 use lib.Ieee.{Float, binary64, prec, mul}
+use lib.Ieee.Fits.{and-l, and-r}
+use Rattle.laws.proofs.Tests.{by-choice}
 use Rattle.ieee.specs.Value.{Within}
 use Rattle.ieee.proofs.Magnitude.{add-within, sub-within, mul-within, neg-within, weaken}
 use Rattle.phrase.specs.Phrase.{Phrase, Stage}
@@ -16,7 +18,6 @@ use Rattle.paths.specs.Anchors.{Anchor, select, numbered, keptIn, kept, 
 use Rattle.paths.specs.Units.{shortestUnit, longestUnit, fitsUnit, mayHold, admitsUnit}
 use Rattle.paths.specs.StageProblem.{cost, scoreOf, unitValueOf, boundary, problemOf}
 use Rattle.paths.specs.Bounded.{Figures, Ranges, fillerBound, stepBound, Room, Bounded}
-use Rattle.paths.proofs.Tests.{left-half, right-half}
 use Rattle.paths.proofs.Frames.{speechIn-le}
 use Rattle.paths.proofs.Anchors.{keptIn-le, heldIn-le}
 
@@ -30,11 +31,8 @@ data InRows (first n : ℕ) : List Anchor → Type 0 where
 rows-select : (test : Anchor → Bool) {first n : ℕ} {anchors : List Anchor} → InRows first n anchors → InRows first n (select test anchors)
 unfolding select
 rows-select test no-anchor = no-anchor
-rows-select test {first} {n} (an-anchor {anchor = anchor} {anchors = anchors} low high more) = go (test anchor) (rows-select test more)
-  where
-    go : (b : Bool) → InRows first n (select test anchors) → InRows first n (cond b (anchor ∷ select test anchors) (select test anchors))
-    go true rest = an-anchor low high rest
-    go false rest = rest
+rows-select test {first} {n} (an-anchor {anchor = anchor} low high more) =
+    by-choice (InRows first n) (test anchor) (λ t. an-anchor low high (rows-select test more)) (λ t. rows-select test more)
 
 rows-numbered : (first n row : ℕ) (frames : List ℕ) → first ≤ row → row + length frames ≤ first + n → InRows first n (numbered row frames)
 unfolding numbered
@@ -75,10 +73,10 @@ module _ {most : Ranges} {phrase : Phrase} {stage : Stage} {columns : List ℕ} 
       → Within binary64 (unitValueOf phrase stage (getD columns unit 0) from to) (most .score + most .duration)
   unfolding unitValueOf admitsUnit
   unit-within strictness unit from to some ok =
-      let long = left-half (fitsUnit (to - from)) (mayHold strictness (length (heldIn (kept phrase stage) from to))) ok in
+      let long = and-l (fitsUnit (to - from)) (mayHold strictness (length (heldIn (kept phrase stage) from to))) ok in
       add-within (score-within unit (rows-held (phrase .mask) (stage .firstRow) (stage .anchors) from to))
-      (bounded .durations (to - from) (leb→le shortestUnit (to - from) (left-half (leb shortestUnit (to - from)) (leb (to - from) longestUnit) long))
-      (leb→le (to - from) longestUnit (right-half (leb shortestUnit (to - from)) (leb (to - from) longestUnit) long)))
+      (bounded .durations (to - from) (leb→le shortestUnit (to - from) (and-l (leb shortestUnit (to - from)) (leb (to - from) longestUnit) long))
+      (leb→le (to - from) longestUnit (and-r (leb shortestUnit (to - from)) (leb (to - from) longestUnit) long)))
       (omega (arith, room .sums, mul-le-mul-right (stepBound most) some))
 
   pub phrase-figures : (strictness : Strictness) → Figures (problemOf phrase stage strictness columns) (fillerBound most) (stepBound most)

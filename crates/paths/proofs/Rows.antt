@@ -5,18 +5,18 @@ use mathlib.Core.Path.{_≡_, refl, sym, ap, ap₂, fun-ext, _∙_}
 use mathlib.Core.Bool.{Bool, true, false, cond, _&&_}
 use lib.Dec.{T, leb, ltb, leb→le, ltb→lt}
 use lib.Ieee.{lt}
+use lib.Ieee.Fits.{and-l, and-r}
 use Rattle.paths.specs.Problem.{Problem}
 use Rattle.paths.specs.Path.{Path, begin, gap, unit, sum}
 use Rattle.paths.specs.Cell.{Cell, held, keep, best, carry, only}
 use Rattle.paths.specs.CellRule.{sweep, arrival, rows, paths, chosenPath}
 use Rattle.paths.specs.System.{Route, start, step, Ways, none, _then_, after, valueOf}
 use Rattle.paths.specs.Table.{gather, bring, Table, tableOf, bestRoutes}
-use Rattle.paths.specs.PathSystem.{State, on, done, Move, byGap, byUnit, stop, unitWays, stopWays, waysIn, waysOf, pathSystem, route}
+use Rattle.paths.specs.PathSystem.{State, on, done, Move, byGap, byUnit, stop, waysBelow, unitWays, stopWays, waysIn, waysOf, pathSystem, route}
 use Rattle.paths.proofs.Cells.{keep-empty, carry-carry, only-true, carry-keep}
 use Rattle.paths.proofs.Tables.{only-table, table-is}
 use Rattle.paths.proofs.PathRoutes.{route-value, ended-value}
 use Rattle.paths.proofs.PathWays.{layered, on-guard}
-use Rattle.paths.proofs.Tests.{left-half, right-half}
 
 -- The cells within the problem and the count, as routes.
 unfoldable pub cells : Problem → ℕ → State → Cell (Route State Move)
@@ -52,7 +52,7 @@ module _ (q : Problem) (k : ℕ) where
   units-bring :
       (x : State) (s j m : ℕ) → s < k → m ≤ j → j < q .size →
       carry route (best (paths q .less) m (arrival q (paths q) s (rows q (paths q) s) j)) ≡ brought-all x (unitWays q s j m)
-  unfolding best arrival unitWays brought-all gather bestRoutes carry paths byValue only route
+  unfolding best arrival waysBelow brought-all gather bestRoutes carry paths byValue only route
   units-bring x s j zero a l b = refl
   units-bring x s j (suc m) a l b =
       route-keep (best (paths q .less) m (arrival q (paths q) s (rows q (paths q) s) j)) (arrival q (paths q) s (rows q (paths q) s) j m) ∙
@@ -87,7 +87,7 @@ module _ (q : Problem) (k : ℕ) where
   ends-bring :
       (s m : ℕ) → s ≤ k → m ≤ q .size →
       carry (λ p. step (route p) stop) (best (λ p r. lt (sum q p) (sum q r)) m (rows q (paths q) s)) ≡ brought-all (done s) (stopWays s m)
-  unfolding best stopWays brought-all gather bestRoutes bring carry byValue
+  unfolding best waysBelow brought-all gather bestRoutes bring carry byValue
   ends-bring s zero a b = refl
   ends-bring s (suc m) a b =
       carry-keep (λ p r. lt (sum q p) (sum q r)) byValue (λ p. step (route p) stop)
@@ -96,24 +96,22 @@ module _ (q : Problem) (k : ℕ) where
       ap₂ (keep byValue) (ends-bring s m a (omega arith))
       (sym (carry-carry (λ r. step r stop) route (rows q (paths q) s m)) ∙ ap (carry (λ r. step r stop)) (sym (cells-on s m a b)))
 
+  -- behind a guard there is something to bring only where it passes
+  guarded :
+      (t : Bool) (x : State) (grow : Path → Route State Move) (c : Cell Path) (ws : Ways State Move) →
+      (T t → carry grow c ≡ brought-all x ws) → carry grow (only t c) ≡ brought-all x (cond t ws none)
+  unfolding brought-all gather bestRoutes carry only
+  guarded true x grow c ws is = is tt
+  guarded false x grow c ws is = refl
+
   pub rows-table : Table (pathSystem q k) (bestRoutes (pathSystem q k)) (cells q k)
   unfolding Table cells waysOf chosenPath brought-all bestRoutes gather carry only
   rows-table (on s j) =
-      go (leb s k && ltb j (q .size))
-      (λ t. row-brings s j (leb→le s k (left-half (leb s k) (ltb j (q .size)) t)) (ltb→lt j (q .size) (right-half (leb s k) (ltb j (q .size)) t)))
-    where
-      go :
-          (t : Bool) → (T t → carry route (rows q (paths q) s j) ≡ brought-all (on s j) (waysIn q s j)) →
-          carry route (only t (rows q (paths q) s j)) ≡ brought-all (on s j) (cond t (waysIn q s j) none)
-      go true is = is tt
-      go false is = refl
-  rows-table (done s) = go (leb s k) (λ t. ends-bring s (q .size) (leb→le s k t) (omega arith))
-    where
-      go :
-          (t : Bool) → (T t → carry (λ p. step (route p) stop) (chosenPath q s) ≡ brought-all (done s) (stopWays s (q .size))) →
-          carry (λ p. step (route p) stop) (only t (chosenPath q s)) ≡ brought-all (done s) (cond t (stopWays s (q .size)) none)
-      go true is = is tt
-      go false is = refl
+      guarded (leb s k && ltb j (q .size)) (on s j) route (rows q (paths q) s j) (waysIn q s j)
+      (λ t. row-brings s j (leb→le s k (and-l (leb s k) (ltb j (q .size)) t)) (ltb→lt j (q .size) (and-r (leb s k) (ltb j (q .size)) t)))
+  rows-table (done s) =
+      guarded (leb s k) (done s) (λ p. step (route p) stop) (chosenPath q s) (stopWays s (q .size))
+      (λ t. ends-bring s (q .size) (leb→le s k t) (omega arith))
 
   -- and so are the table that is computed
   pub rows-are-table : (x : State) → cells q k x ≡ tableOf (pathSystem q k) (layered q k) (bestRoutes (pathSystem q k)) x

@@ -1,6 +1,6 @@
 -- Cells of a search, whatever is kept in them, and "a later way replaces only when strictly greater" (document 01).
 use Prim.Native.Nat.{ℕ, zero, suc}
-use mathlib.Core.Bool.{Bool, true, false, cond}
+use mathlib.Core.Bool.{Bool, cond}
 
 -- Nothing reached the cell, or what is kept of the path that did.
 pub data Cell (A : Type 0) : Type 0 where
@@ -26,5 +26,4 @@ carry step (held a) = held (step a)
 
 -- A way that is there only if a test passes.
 unfoldable pub only : {A : Type 0} → Bool → Cell A → Cell A
-only true way = way
-only false way = empty
+only b way = cond b way empty

@@ -1,11 +1,11 @@
 -- The path problem as a layered system: paths of up to k units, whose end is one more step.
 use Prim.Native.Nat.{ℕ, zero, suc, _≤_, _<_}
-use mathlib.Core.Bool.{cond, _&&_}
+use mathlib.Core.Bool.{Bool, true, cond, _&&_}
 use lib.Dec.{T, leb, ltb}
 use lib.Ieee.{Float, binary64, add, sub, lt, ofBits}
 use Rattle.paths.specs.Problem.{Problem}
 use Rattle.paths.specs.Path.{Path, begin, gap, unit}
-use Rattle.paths.specs.System.{System, Route, start, step, Ways, none, _then_, fresh, after}
+use Rattle.paths.specs.System.{System, Route, start, step, Way, Ways, none, _then_, fresh, after}
 
 -- A cell (units so far, boundary), and for each count of units its end.
 pub data State : Type 0 where
@@ -49,20 +49,20 @@ next q (on s i) (byUnit j) v = add binary64 v (q .unitValue s i j)
 next q (on s i) stop v = sub binary64 v (q .stopCost i)
 next q (done s) move v = v
 
--- Units into boundary j from the boundaries below m, lowest first.
-unfoldable pub unitWays : Problem → ℕ → ℕ → ℕ → Ways State Move
-unitWays q s j zero = none
-unitWays q s j (suc m) =
-    cond (q .unitOk m j) (unitWays q s j m then after (on s m) (byUnit j)) (unitWays q s j m)
+-- The ways from the boundaries below m that pass a test, lowest first.
+unfoldable pub waysBelow : (ℕ → Bool) → (ℕ → Way State Move) → ℕ → Ways State Move
+waysBelow ok way zero = none
+waysBelow ok way (suc m) = cond (ok m) (waysBelow ok way m then way m) (waysBelow ok way m)
 
--- The ends at the boundaries below m, lowest first.
-unfoldable pub stopWays : ℕ → ℕ → Ways State Move
-stopWays s zero = none
-stopWays s (suc m) = stopWays s m then after (on s m) stop
+-- Units into boundary j, and the ends.
+abbrev pub unitWays : Problem → ℕ → ℕ → ℕ → Ways State Move
+unitWays q s j m = waysBelow (λ i. q .unitOk i j) (λ i. after (on s i) (byUnit j)) m
+
+abbrev pub stopWays : ℕ → ℕ → Ways State Move
+stopWays s m = waysBelow (λ i. true) (λ i. after (on s i) stop) m
 
 -- "Start comes first, then units from the lowest origin up, then the gap."
 unfoldable pub waysIn : Problem → ℕ → ℕ → Ways State Move
-unfolding unitWays
 waysIn q zero zero = none then fresh
 waysIn q zero (suc j) = none then fresh then after (on zero j) byGap
 waysIn q (suc s) zero = none
@@ -70,7 +70,6 @@ waysIn q (suc s) (suc j) = unitWays q s (suc j) (suc j) then after (on (suc s) j
 
 -- only boundaries of the problem, and counts of up to k units
 unfoldable pub waysOf : Problem → ℕ → State → Ways State Move
-unfolding waysIn stopWays
 waysOf q k (on s j) = cond (leb s k && ltb j (q .size)) (waysIn q s j) none
 waysOf q k (done s) = cond (leb s k) (stopWays s (q .size)) none
 

@@ -1,12 +1,13 @@
 -- What the units out of a row bring, origin by origin, and that the look ahead skips only what is barred. Assumes nothing.
 use mathlib.Core.Bool.{Bool, true, false, cond, _&&_, _||_, and-false, and-true}
-use mathlib.Core.Path.{_≡_, refl, sym, subst, _∙_}
+use mathlib.Core.Path.{_≡_, refl, sym, _∙_}
 use Prim.Native.Nat.{ℕ, suc, _-_, _≤_, _<_}
 use native.Mathlib.Omega.{arith}
-use lib.Dec.{T, leb, ltb}
+use lib.Dec.{leb, ltb}
 use lib.Ieee.{Float, binary64, add, nan}
 use lib.ListN.{length, getD}
 use borrow.Author.Tests.{le-leb, lt-leb, leb-true, ltb-true, ltb-false}
+use Rattle.laws.proofs.Choices.{neither-left, neither-right, one-passes, and-left}
 use Rattle.paths.specs.declared.passes.Strictness.{Strictness}
 use Rattle.paths.specs.declared.passes.Strictness.the-variants.{Strict, Relaxed}
 use Rattle.paths.specs.Problem.{Problem}
@@ -52,25 +53,9 @@ module _ (q : Problem) (s : ℕ) (cells : ℕ → Cell Marked) (i j : ℕ) where
 
 -- ---- the look ahead
 
-or-false-left : (a b : Bool) → (a || b) ≡ false → a ≡ false
-or-false-left true b e = e
-or-false-left false b e = refl
-
-or-false-right : (a b : Bool) → (a || b) ≡ false → b ≡ false
-or-false-right true b e = absurd (subst T e tt)
-or-false-right false b e = e
-
-or-true : {X : Type 0} (a b : Bool) → (a || b) ≡ true → (a ≡ true → X) → (b ≡ true → X) → X
-or-true true b e left right = left refl
-or-true false b e left right = right e
-
 two-barred : (strictness : Strictness) → mayHold strictness 2 ≡ false
 two-barred Strict = refl
 two-barred Relaxed = refl
-
-and-left : (a b : Bool) → (a && b) ≡ true → a ≡ true
-and-left true b e = refl
-and-left false b e = e
 
 -- the code's two tests: that the look ahead is to stop, and that a unit before that is as the pass asks
 abbrev pub past : UnitTables → ℕ → ℕ → Bool
@@ -81,10 +66,10 @@ asked t i j = leb shortestUnit (framesOf t i j) && mayHold (t .strictness) (cond
 
 module _ (t : UnitTables) (i j : ℕ) where
   not-far : past t i j ≡ false → framesOf t i j ≤ longestUnit
-  not-far e = ltb-false longestUnit (framesOf t i j) (or-false-left (ltb longestUnit (framesOf t i j)) (ltb (getD (t .second) i 0) (frameAt t j)) e)
+  not-far e = ltb-false longestUnit (framesOf t i j) (neither-left (ltb longestUnit (framesOf t i j)) (ltb (getD (t .second) i 0) (frameAt t j)) e)
 
   not-crowded : past t i j ≡ false → frameAt t j ≤ getD (t .second) i 0
-  not-crowded e = ltb-false (getD (t .second) i 0) (frameAt t j) (or-false-right (ltb longestUnit (framesOf t i j)) (ltb (getD (t .second) i 0) (frameAt t j)) e)
+  not-crowded e = ltb-false (getD (t .second) i 0) (frameAt t j) (neither-right (ltb longestUnit (framesOf t i j)) (ltb (getD (t .second) i 0) (frameAt t j)) e)
 
   long-enough : {admitted : Bool} → admitted ≡ asked t i j → admitted ≡ true → leb shortestUnit (framesOf t i j) ≡ true
   long-enough is passed = and-left (leb shortestUnit (framesOf t i j)) (mayHold (t .strictness) (cond (leb (frameAt t j) (getD (t .first) i 0)) 0 1)) (sym is ∙ passed)
@@ -99,7 +84,7 @@ module _ (t : UnitTables) (i j : ℕ) where
 module _ {q : Problem} {s : ℕ} {t : UnitTables} {n : ℕ} (of : UnitsOf q s t n) (i j : ℕ) (later : i < j) where
   -- "stops for good at the first that is over 80 frames away or takes in a second anchor"
   pub past-barred : Ordered t n → past t i j ≡ true → (target : ℕ) → j ≤ target → target < n → q .unitOk i target ≡ false
-  past-barred ordered e target h k = of .ok i target (omega arith) k ∙ or-true (ltb longestUnit (framesOf t i j)) (ltb (getD (t .second) i 0) (frameAt t j)) e
+  past-barred ordered e target h k = of .ok i target (omega arith) k ∙ one-passes (ltb longestUnit (framesOf t i j)) (ltb (getD (t .second) i 0) (frameAt t j)) e
       (λ far. rw (lt-leb (framesOf t i target) longestUnit (omega (arith, ordered .ascending j target h k, ltb-true longestUnit (framesOf t i j) far)), and-false))
       (λ crowded.
       let above = ltb-true (getD (t .second) i 0) (frameAt t j) crowded in

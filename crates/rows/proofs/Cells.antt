@@ -1,11 +1,10 @@
 -- What the two numbers of a cell stand for, and what a way that is offered to it makes of that. Assumes nothing.
-use mathlib.Core.Bool.{Bool, true, false, cond, not}
+use mathlib.Core.Bool.{Bool, true, false, cond}
 use mathlib.Core.Logic.{_≢_}
 use mathlib.Core.List.{List}
 use mathlib.Core.Path.{_≡_, refl, sym, ap, _∙_}
-use Prim.Native.Nat.{ℕ, _≤_, _<_}
+use Prim.Native.Nat.{ℕ, _<_}
 use native.Mathlib.Omega.{arith}
-use lib.Dec.{T, ltb, ltb→lt, nltb→le}
 use lib.Ieee.{Float, lt, nan}
 use lib.ListN.{length, getD}
 use lib.Seq.{getD-set-same, getD-set-other}
@@ -16,13 +15,6 @@ use Rattle.rows.specs.declared.way.Way.{Way}
 use Rattle.rows.specs.declared.way.Way.the-variants.{Start, Gap, Unit}
 use Rattle.rows.specs.Ways.{wayValue, wayMark, markedBy, replaces, offered, Offered}
 use Rattle.rows.specs.Rows.{Holds, unreached, reached, HoldsAt, Same}
-
-pub by-order {ℓ} : {X : Type ℓ} (m n : ℕ) → (m < n → X) → (n ≤ m → X) → X
-by-order {X = X} m n below above = go (ltb m n) (ltb→lt m n) (nltb→le m n)
-  where
-    go : (b : Bool) → (T b → m < n) → (T (not b) → n ≤ m) → X
-    go true lt ge = below (lt tt)
-    go false lt ge = above (ge tt)
 
 -- how two cells compare
 abbrev pub higher : Marked → Marked → Bool

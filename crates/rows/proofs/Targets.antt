@@ -10,6 +10,7 @@ use native.Mathlib.Numerals.{add-one}
 use native.Mathlib.Omega.{arith}
 use lib.Ieee.{Float, binary64, add, nan}
 use lib.ListN.{length, getD}
+use Rattle.laws.proofs.Numbers.{by-order}
 use Rattle.paths.specs.Problem.{Problem}
 use Rattle.paths.specs.Cell.{Cell}
 use Rattle.paths.specs.Marks.{Marked, marks}
@@ -17,7 +18,7 @@ use Rattle.rows.specs.declared.way.Way.the-variants.{Unit}
 use Rattle.rows.specs.Ways.{Offered}
 use Rattle.rows.specs.Rows.{Row, HoldsAt, Same, first, next, unfilled}
 use Rattle.rows.specs.Units.{UnitTables, UnitsOf, arrivals, NextFilled}
-use Rattle.rows.proofs.Cells.{by-order, holds-empty, holds-held, same-refl, same-sym, same-trans, same-holds, offer-keeps, offer-beside}
+use Rattle.rows.proofs.Cells.{holds-empty, holds-held, same-refl, same-sym, same-trans, same-holds, offer-keeps, offer-beside}
 use Rattle.rows.proofs.Arrivals.{brought, brought-zero, brought-none, brought-barred, brought-unit}
 
 -- the cell of boundary j in the next row has what the first m origins bring, whatever row they stand in

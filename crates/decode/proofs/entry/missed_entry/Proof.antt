@@ -1,6 +1,7 @@
 -- The score and the spans are those of no path.
 use mathlib.Core.Path.{ap, _∙_}
 use Rattle.ieee.specs.Convert.{clampedLog}
+use Rattle.ieee.proofs.Value.{finite-number}
 use borrow.Author.Needs.{needs}
 use Rattle.decode.proofs.entry.missed_entry.Statement.{statement}
 use Rattle.decode.proofs.entry.missed_entry.Tie as tie
@@ -21,7 +22,7 @@ returns c =
     record {
       head = λ i. record { id = a .id; llr = llr i; pass = a .pass; units = a .k };
       units = c .missed-units .ensures;
-      number = c .before .clamp-log .ensures .comparable .number;
+      number = finite-number _ (c .before .clamp-log .ensures .within .real .isFinite);
     }
 
 pub missed-entry-spec : {M : Type 1} → statement M

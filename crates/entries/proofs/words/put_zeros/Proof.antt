@@ -4,7 +4,7 @@ use mathlib.Core.Path.{_≡_, refl, sym, _∙_}
 use native.Mathlib.Omega.{arith}
 use lib.ListN.{length, replicate, length-set}
 use lib.Seq.{sets}
-use Rattle.entries.proofs.Stores.{zeros-turn, zeros-end}
+use Rattle.laws.proofs.Stores.{fill-turn, fill-end}
 use Rattle.entries.proofs.words.put_zeros.Statement.{statement}
 use Rattle.entries.proofs.words.put_zeros.Tie as tie
 
@@ -34,14 +34,14 @@ loop-again : tie.Need-loop-again Inv-loop μ-loop
 loop-again c = (
   omega arith,
   simp length-set (c .before .loop .inv .1),
-  c .before .loop .inv .2 ∙ zeros-turn (c .before .loop .out) (c .before .loop .i) (c .before .before .args .to) (c .loop-test .taken),
+  c .before .loop .inv .2 ∙ fill-turn (c .before .loop .out) 0 (c .before .loop .i) (c .before .before .args .to) (c .loop-test .taken),
 )
 
 same-length : tie.Need-same-length Inv-loop μ-loop
 same-length c = c .before .loop .inv .1
 
 returns : tie.Need-returns Inv-loop μ-loop
-returns c = sym (c .before .loop .inv .2 ∙ zeros-end (c .before .loop .out) (c .before .loop .i) (c .before .before .args .to) (c .loop-test .left))
+returns c = sym (c .before .loop .inv .2 ∙ fill-end (c .before .loop .out) 0 (c .before .loop .i) (c .before .before .args .to) (c .loop-test .left))
 
 pub put-zeros-spec : {M : Type 1} → statement M
 put-zeros-spec =

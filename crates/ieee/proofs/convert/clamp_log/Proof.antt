@@ -3,10 +3,9 @@ use mathlib.Core.Path.{_≡_, sym, ap, _∙_, subst}
 use mathlib.Core.Bool.{not}
 use lib.Dec.{T}
 use lib.Ieee.{Float, binary32, isNan}
-use lib.Ieee.Scale.{finite}
 use Rattle.ieee.specs.Convert.{narrowed, clampedLog}
-use Rattle.ieee.specs.TotalOrder.{Comparable}
-use Rattle.ieee.proofs.NarrowClamp.{clamped-number, clampedLog-comparable, clampedLog-finite}
+use Rattle.ieee.specs.Value.{Within}
+use Rattle.ieee.proofs.NarrowClamp.{clamped-number, clampedLog-within}
 use Rattle.ieee.proofs.convert.clamp_log.Statement.{statement}
 use Rattle.ieee.proofs.convert.clamp_log.Tie as tie
 
@@ -23,8 +22,7 @@ returns c =
     let value : c .narrow .result ≡ clampedLog v = c .narrow .ensures .value ∙ ap narrowed (c .before .clamp .ensures) in
     record {
       value = value;
-      comparable = subst (Comparable binary32) (sym value) (clampedLog-comparable v);
-      finite = subst (λ (x : Float). T (finite x)) (sym value) (clampedLog-finite v);
+      within = subst (λ (x : Float). Within binary32 x 1000000) (sym value) (clampedLog-within v);
     }
 
 pub clamp-log-spec : {M : Type 1} → statement M

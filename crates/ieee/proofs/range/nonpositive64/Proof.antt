@@ -1,6 +1,6 @@
 -- `ieee::range::nonpositive64` meets its contract.
 use lib.Ieee.{binary64}
-use Rattle.ieee.proofs.Pattern.{nonpositive-test}
+use Rattle.ieee.proofs.PatternRange.{nonpositive-test}
 use Rattle.ieee.proofs.range.nonpositive64.Statement.{statement}
 use Rattle.ieee.proofs.range.nonpositive64.Tie as tie
 

@@ -1,6 +1,6 @@
 -- `ieee::range::within32` meets its contract.
 use lib.Ieee.{binary32}
-use Rattle.ieee.proofs.Pattern.{within-test}
+use Rattle.ieee.proofs.PatternRange.{within-test}
 use Rattle.ieee.proofs.range.within32.Statement.{statement}
 use Rattle.ieee.proofs.range.within32.Tie as tie
 

@@ -1,6 +1,6 @@
 -- `ieee::range::within64` meets its contract.
 use lib.Ieee.{binary64}
-use Rattle.ieee.proofs.Pattern.{within-test}
+use Rattle.ieee.proofs.PatternRange.{within-test}
 use Rattle.ieee.proofs.range.within64.Statement.{statement}
 use Rattle.ieee.proofs.range.within64.Tie as tie
 

@@ -5,10 +5,10 @@ use Prim.Native.Nat.{ℕ}
 use lib.Dec.{leb, ltb}
 use borrow.Author.Needs.{needs}
 use borrow.Author.Tests.{lt-ltb, le-ltb, le-leb, lt-leb}
+use Rattle.laws.proofs.Numbers.{by-order}
 use Rattle.paths.specs.declared.passes.Strictness.{Strictness}
 use Rattle.paths.specs.declared.passes.Strictness.the-variants.{Strict, Relaxed}
 use Rattle.paths.specs.Units.{mayHold}
-use Rattle.rows.proofs.Cells.{by-order}
 use Rattle.rows.proofs.units.admits.Statement.{statement}
 use Rattle.rows.proofs.units.admits.Tie as tie
 

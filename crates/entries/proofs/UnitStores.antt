@@ -1,31 +1,13 @@
--- Stores one after the other (`sets`): what is left to store after a turn of a loop, and what two runs of stores make.
+-- The words of units, stored one after the other: what is left to store after a turn of the loop, and at its end.
 use Prim.Native.Nat.{ℕ, suc, _+_, _-_, _*_, _≤_, _<_}
 use mathlib.Core.Path.{_≡_, sym, ap, _∙_}
-use mathlib.Core.List.{List, [], _∷_, _++_}
-use native.Mathlib.Nat.{add-zero, suc-add, add-suc}
+use mathlib.Core.List.{List, _∷_}
 use native.Mathlib.Numerals.{add-one, add-two, add-three}
 use native.Mathlib.Omega.{arith}
-use lib.ListN.{length, getD, set, replicate}
+use lib.ListN.{getD, set}
 use lib.Seq.{sets}
 use Rattle.entries.specs.Words.{unitWords}
 use Rattle.entries.specs.EntryFrom.{unitsFrom}
-
-pub sets-append : (l xs ys : List ℕ) (i : ℕ) → sets l i (xs ++ ys) ≡ sets (sets l i xs) (i + length xs) ys
-sets-append l [] ys i = ap (λ (n : ℕ). sets l n ys) (sym (add-zero i))
-sets-append l (x ∷ xs) ys i =
-    sets-append (set l i x) xs ys (suc i)
-    ∙ ap (λ (n : ℕ). sets (sets (set l i x) (suc i) xs) n ys) (suc-add i (length xs) ∙ sym (add-suc i (length xs)))
-
-pub zeros-turn : (l : List ℕ) (i to : ℕ) → i < to → sets l i (replicate (to - i) 0) ≡ sets (set l i 0) (i + 1) (replicate (to - (i + 1)) 0)
-zeros-turn l i to h =
-    let one-less : to - i ≡ suc (to - (i + 1)) = omega arith in
-    ap (λ (n : ℕ). sets l i (replicate n 0)) one-less
-    ∙ ap (λ (n : ℕ). sets (set l i 0) n (replicate (to - (i + 1)) 0)) (sym (add-one i))
-
-pub zeros-end : (l : List ℕ) (i to : ℕ) → to ≤ i → sets l i (replicate (to - i) 0) ≡ l
-zeros-end l i to h =
-    let nothing : to - i ≡ 0 = omega arith in
-    ap (λ (n : ℕ). sets l i (replicate n 0)) nothing
 
 -- three stores, at the places as code counts them
 three : (l vs : List ℕ) (at next a b c : ℕ) → at + 3 ≡ next → sets l at (a ∷ b ∷ c ∷ vs) ≡ sets (set (set (set l at a) (at + 1) b) (at + 2) c) next vs

@@ -1,0 +1,7 @@
+-- Laws of tests, numbers and lists, each stated once.
+pub mod Tests
+pub mod Choices
+pub mod Numbers
+pub mod Lists
+pub mod Stores
+pub mod Listed
