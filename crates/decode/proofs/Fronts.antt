@@ -10,7 +10,7 @@ use Rattle.stages.proofs.Listed.{length-listed, length-table}
 use Rattle.clip.specs.Clip.{reported, startsOf, endsOf}
 use Rattle.clip.specs.Units.{unitsFrom, unitsOf, Alike, Clipped}
 use Rattle.clip.specs.declared.clip.Span.{Span}
-use Rattle.decode.proofs.Units.{length-reported}
+use Rattle.decoding.proofs.Units.{length-reported}
 
 module _ (f : ℕ → ℕ) (k size : ℕ) {l : List ℕ} (e : l ≡ tableOf f k size 0) where
   pub front : take k l ≡ listed f k

@@ -19,8 +19,8 @@ use Rattle.entries.specs.Words.{allWords}
 use Rattle.entries.specs.Ranking.{insert, rankOnto, ranked}
 use Rattle.entries.specs.Placing.{Fit, All, Inserted}
 use Rattle.entries.proofs.Ranks.{all-ranked, ranked-more}
-use Rattle.decode.specs.EntryOf.{entryOf, entriesOf}
-use Rattle.decode.proofs.Demands.{entries-fit}
+use Rattle.decoding.specs.EntryOf.{entryOf, entriesOf}
+use Rattle.decoding.proofs.Demands.{entries-fit}
 
 length-insert : (e : Entry) (es : List Entry) → length (insert e es) ≡ suc (length es)
 unfolding insert

@@ -1,14 +1,7 @@
--- Laws of this layer's definitions.
-pub mod Calls
-pub mod Bounded
-mod Units
-pub mod Demands
-pub mod Decodes
-pub mod OneOutcome
+-- From what the code's arrays hold to what decoding promises.
 mod Placing
 mod Fronts
 mod HeldUnits
-mod Admitted
 mod Reporting
 mod Plans
 mod Said
@@ -16,6 +9,3 @@ mod Tried
 mod Scoring
 mod InTurn
 mod Cleared
-mod Group
-mod Examples
-mod ShutOut

@@ -23,8 +23,9 @@ use Rattle.evidence.specs.declared.evidence.Span as Evidence
 use Rattle.clip.specs.Clip.{anchored, unanchored, given}
 use Rattle.clip.specs.declared.clip.Span.{Span}
 use Rattle.entries.specs.Entry.{noRow}
+use Rattle.decoding.specs.Report.{lowEdge, highEdge, rowSpan, heldBy, placedBy, placed}
+use Rattle.decoding.proofs.Admitted.{UnitOk}
 use Rattle.decode.specs.declared.report.PlacedUnit.{PlacedUnit}
-use Rattle.decode.specs.Report.{lowEdge, highEdge, rowSpan, heldBy, placedBy, placed}
 use Rattle.decode.specs.Places.{placeOf}
 
 -- what a unit is placed as, by the anchors that it holds
@@ -35,12 +36,6 @@ placeFor phrase stage unit anchors =
 
 abbrev pub placeIn : Phrase → Stage → Bounds → PlacedUnit
 placeIn phrase stage unit = placeFor phrase stage unit (heldBy phrase stage unit)
-
--- a unit that a stage admits, in a strict or a relaxed pass
-pub record UnitOk (phrase : Phrase) (stage : Stage) (strictness : Strictness) (unit : Bounds) : Type 0 where
-  pub forward : unit .first < unit .last
-  pub inside : unit .last < length (stage .boundaries)
-  pub admitted : T (admitsUnit strictness (kept phrase stage) (boundary stage (unit .first)) (boundary stage (unit .last)))
 
 right-half : (a b : Bool) → T (a && b) → T b
 right-half true b t = t

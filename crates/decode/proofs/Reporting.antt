@@ -31,11 +31,11 @@ use Rattle.clip.specs.declared.clip.Span.{Span}
 use Rattle.entries.specs.Entry.{noRow}
 use Rattle.decode.specs.declared.report.PlacedUnit.{PlacedUnit}
 use Rattle.decode.specs.declared.report.Reported.{Reported}
-use Rattle.decode.specs.Report.{lowEdge, highEdge, heldBy, placed, reportedUnit, reportedIn}
+use Rattle.decoding.specs.Report.{lowEdge, highEdge, heldBy, placed, reportedUnit, reportedIn}
 use Rattle.decode.specs.Places.{placeOf, placeAt, Placeable, placedList, ReportedAll, unitless, Holds}
-use Rattle.decode.proofs.Units.{length-reported, length-reportedIn}
-use Rattle.decode.proofs.Placing.{placeIn, UnitOk, placed-by-tables, told-by-row}
-use Rattle.decode.proofs.Admitted.{noBounds}
+use Rattle.decoding.proofs.Units.{length-reported, length-reportedIn}
+use Rattle.decoding.proofs.Admitted.{UnitOk, noBounds}
+use Rattle.decode.proofs.Placing.{placeIn, placed-by-tables, told-by-row}
 
 -- ---- lists by index
 

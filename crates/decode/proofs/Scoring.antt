@@ -43,18 +43,18 @@ use Rattle.entries.specs.declared.words.EntryHead.{EntryHead}
 use Rattle.decode.specs.declared.plan.Plan.{Plan}
 use Rattle.decode.specs.declared.report.Reported.{Reported}
 use Rattle.decode.specs.declared.entry.Scored.{Scored}
-use Rattle.decode.specs.Report.{lowEdge, highEdge, reportedIn, reportedUnits}
-use Rattle.decode.specs.Report as Report
-use Rattle.decode.specs.EntryOf.{missedTotal, missedUnits, totalOf, unitsFor, entryFor, entryBy, entryOf}
+use Rattle.decoding.specs.Report.{lowEdge, highEdge, reportedIn, reportedUnits}
+use Rattle.decoding.specs.Report as Report
+use Rattle.decoding.specs.EntryOf.{missedTotal, missedUnits, totalOf, unitsFor, entryFor, entryBy, entryOf}
 use Rattle.decode.specs.Places.{Placeable, ReportedAll, missedAt, missedBy, Holds}
 use Rattle.decode.specs.Plans.{PlanOf}
 use Rattle.decode.specs.Scored.{sideFor, MissedEntry, ScoredAs}
-use Rattle.decode.proofs.Demands.{answered}
-use Rattle.decode.proofs.Units.{length-reportedIn}
+use Rattle.decoding.proofs.Demands.{answered}
+use Rattle.decoding.proofs.Units.{length-reportedIn}
 use Rattle.decode.proofs.Reporting as Reporting
 use Rattle.decode.proofs.Said.{FoundPath, says-found, says-none, says-unvoiced}
 use Rattle.decode.proofs.Tried.{first-there, counted, relaxed}
-use Rattle.decode.proofs.Admitted.{each-ok}
+use Rattle.decoding.proofs.Admitted.{each-ok}
 use Rattle.decode.proofs.HeldUnits.{held-units, missed-hold}
 
 same-stage : (phrase : Phrase) (pass : Pass) → passStage phrase pass ≡ Report.stageOf phrase pass

@@ -1,7 +1,4 @@
--- The definitions of this layer: the units reported for a path, the entry of a candidate, and what decoding promises.
-pub mod Report
+-- What the code's contracts speak of beside what decoding promises: the lookups of a phrase, and units and entries as arrays hold them.
 pub mod Places
-pub mod EntryOf
 pub mod Plans
 pub mod Scored
-pub mod Contract

@@ -7,7 +7,7 @@ use Rattle.closed.specs.Answered.{RunsOf}
 use Rattle.prepare.specs.declared.side.Side.{Side}
 use Rattle.prepare.specs.Sides.{SideOf}
 use Rattle.decode.specs.declared.plan.Plan.{Plan}
-use Rattle.decode.specs.Report.{lowEdge, highEdge}
+use Rattle.decoding.specs.Report.{lowEdge, highEdge}
 
 -- "The added stage [..] exists exactly when A > 0."
 pub record AddedSide (phrase : Phrase) (other side : Side) : Type 0 where

@@ -1,12 +1,12 @@
 // The entry point: from a record and lent memory to result words.
 
-use crate::answer::Decoded;
 use crate::entry::put_candidates;
 use crate::plan::plan_of;
+use decoding::answer::Decoded;
 use record::check::check_areas;
 use record::refusal::Checked;
 use rows::clear::clear;
-ghost use Rattle.decode.specs.Contract.{Decodes};
+ghost use Rattle.decoding.specs.Contract.{Decodes};
 
 // How many f64 and u32 of the work areas are used.
 const WORK_CELLS: usize = 1088;

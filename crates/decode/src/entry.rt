@@ -30,7 +30,7 @@ ghost use Rattle.record.specs.Edition.{edition1};
 ghost use Rattle.record.specs.Meaning.{phraseOf};
 ghost use Rattle.record.specs.Accepted.{Laid};
 ghost use Rattle.record.specs.Reading.{candidateOf};
-ghost use Rattle.decode.specs.EntryOf.{entryOf, entriesOf};
+ghost use Rattle.decoding.specs.EntryOf.{entryOf, entriesOf};
 ghost use Rattle.decode.specs.Plans.{PlanOf};
 ghost use Rattle.decode.specs.Scored.{sideFor, MissedEntry, ScoredAs};
 

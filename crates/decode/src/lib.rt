@@ -1,6 +1,5 @@
-// Decoding: from a phrase record to its result words. What it promises is in specs/Contract.antt.
+// Decoding: from a phrase record to its result words. What it promises is in the crate `decoding`.
 
-pub mod answer;
 pub mod decode;
 pub mod entry;
 pub mod missed;

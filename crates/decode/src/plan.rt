@@ -16,7 +16,7 @@ ghost use Rattle.prepare.specs.Sides.{SideOf};
 ghost use Rattle.record.specs.Meaning.{phraseOf};
 ghost use Rattle.record.specs.Accepted.{Laid};
 ghost use Rattle.record.specs.Reading.{edgesOf};
-ghost use Rattle.decode.specs.Report.{lowEdge, highEdge};
+ghost use Rattle.decoding.specs.Report.{lowEdge, highEdge};
 ghost use Rattle.decode.specs.Plans.{AddedSide, PlanOf};
 
 // `added` is a stage of its own only where `runs` says so.

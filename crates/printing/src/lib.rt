@@ -1,7 +1,7 @@
 // The listing of a record, as document 01 shows it under "Sample phrase".
 
-use decode::answer::Decoded;
 use decode::decode::decode;
+use decoding::answer::Decoded;
 use io::print_decimal;
 use io::print_hex;
 use io::write_all;

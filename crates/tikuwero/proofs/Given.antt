@@ -11,9 +11,9 @@ use Rattle.evidence.specs.CreakyTail.{creakyTailOf}
 use Rattle.evidence.specs.declared.evidence.SpansAnswer.{SpansAnswer}
 use Rattle.evidence.specs.declared.evidence.TailAnswer.{TailAnswer}
 use Rattle.evidence.specs.declared.frames.Nearest.{Nearest}
-use Rattle.decode.specs.Contract as Contract
-use Rattle.decode.specs.Contract.{Decodes}
-use Rattle.decode.specs.declared.answer.Decoded.{Decoded}
+use Rattle.decoding.specs.Contract as Contract
+use Rattle.decoding.specs.Contract.{Decodes}
+use Rattle.decoding.specs.declared.answer.Decoded.{Decoded}
 use Rattle.tikuwero.specs.Status.{status}
 use Rattle.tikuwero.specs.Calls.{SpansCall, DecodeCall}
 

@@ -19,8 +19,8 @@ use Rattle.record.specs.Refusals.{numberOf, refusalWith}
 use Rattle.record.specs.declared.refusal.Refusal.{Refusal}
 use Rattle.record.specs.declared.refusal.Refusal.the-variants.{Stub, Edition, Size, Reach, Track, Cost, Bare, Twice, Units, Column, Desk}
 use Rattle.record.proofs.Accepted.{counts}
-use Rattle.decode.specs.Contract.{outcomeOf}
-use Rattle.decode.proofs.Calls.{own-rules, candidates-counted}
+use Rattle.decoding.specs.Contract.{outcomeOf}
+use Rattle.decoding.proofs.Calls.{own-rules, candidates-counted}
 use Rattle.evidence.specs.declared.frames.Nearest.{Nearest}
 use Rattle.evidence.specs.declared.frames.Nearest.the-variants.{None, At}
 

@@ -9,8 +9,8 @@ use Rattle.evidence.specs.Rate.{rateOf}
 use Rattle.evidence.specs.Spans.{tbuSpansOf, wordsOf, spansOf, written}
 use Rattle.record.specs.Refusals.{refusalWith}
 use Rattle.record.specs.Meaning.{phraseOf}
-use Rattle.decode.specs.Contract.{Decodes, outcomeOf}
-use Rattle.decode.specs.declared.answer.Decoded.{Decoded}
+use Rattle.decoding.specs.Contract.{Decodes, outcomeOf}
+use Rattle.decoding.specs.declared.answer.Decoded.{Decoded}
 use Rattle.tikuwero.specs.Status.{status, stored}
 
 -- `tikuwero_decode`: M; the answer that the number stands for, and all that is lent, are as decoding promises

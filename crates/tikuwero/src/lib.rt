@@ -5,8 +5,8 @@ mod words;
 
 use crate::words::flag;
 use crate::words::frame_of;
-use decode::answer::Decoded;
 use decode::decode::decode;
+use decoding::answer::Decoded;
 use evidence::duration::RateAnswer;
 use evidence::duration::rate_s;
 use evidence::evidence::SpansAnswer;

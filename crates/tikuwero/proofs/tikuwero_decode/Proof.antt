@@ -6,7 +6,7 @@ use lib.IntN.{pos, negℤ}
 use lib.ListN.{length}
 use mir.Syntax.{w32}
 use mir.Facts.{toZ-pos}
-use Rattle.decode.specs.Contract.{outcome}
+use Rattle.decoding.specs.Contract.{outcome}
 use Rattle.tikuwero.proofs.Numbers.{minus-fits, minus-read}
 use Rattle.tikuwero.proofs.Given.{given, decode-call}
 use Rattle.tikuwero.proofs.Limits.{entries-within, number-within}

@@ -5,8 +5,8 @@ use lib.ListN.{length}
 use Rattle.record.specs.Edition.{edition1}
 use Rattle.record.proofs.Accepted.{counts}
 use Rattle.record.proofs.Reading.{candidate-count}
-use Rattle.decode.proofs.Calls.{refused-call, accepted-call}
-use Rattle.decode.proofs.Decodes.{decodes-refused, decodes-accepted}
+use Rattle.decoding.proofs.Calls.{refused-call, accepted-call}
+use Rattle.decoding.proofs.Decodes.{decodes-refused, decodes-accepted}
 use Rattle.decode.proofs.Cleared.{unused-cleared}
 use borrow.Author.Needs.{needs}
 use Rattle.decode.proofs.decode.decode.Statement.{statement}

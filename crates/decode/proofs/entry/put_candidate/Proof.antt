@@ -5,7 +5,7 @@ use Rattle.record.specs.Meaning.{phraseOf}
 use Rattle.record.specs.Reading.{candidateOf}
 use Rattle.entries.specs.Entry.{Entry}
 use Rattle.entries.specs.Placing.{Inserted}
-use Rattle.decode.specs.EntryOf.{entryOf}
+use Rattle.decoding.specs.EntryOf.{entryOf}
 use Rattle.decode.proofs.Plans.{both-tabled}
 use borrow.Author.Needs.{needs}
 use Rattle.decode.proofs.entry.put_candidate.Statement.{statement}

@@ -1,6 +1,6 @@
 -- Each part is looked up.
 use mathlib.Core.Path.{ap, _∙_}
-use Rattle.decode.specs.Report.{lowEdge, highEdge}
+use Rattle.decoding.specs.Report.{lowEdge, highEdge}
 use borrow.Author.Needs.{needs}
 use Rattle.decode.proofs.plan.plan_of.Statement.{statement}
 use Rattle.decode.proofs.plan.plan_of.Tie as tie

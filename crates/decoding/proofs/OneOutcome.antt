@@ -11,10 +11,10 @@ use Rattle.record.specs.Refusals.{numberOf, refusalWith}
 use Rattle.record.specs.declared.refusal.Refusal.{Refusal}
 use Rattle.record.specs.declared.refusal.Refusal.the-variants.{Stub, Edition, Size, Reach, Track, Cost, Bare, Twice, Units, Column, Desk}
 use Rattle.record.specs.Meaning.{phraseOf}
-use Rattle.decode.specs.Contract.{outcome, Decodes}
-use Rattle.decode.specs.declared.answer.Decoded.{Decoded}
-use Rattle.decode.specs.declared.answer.Decoded.the-variants.{Entries, Refused}
-use Rattle.decode.proofs.Decodes.{decodes-refused, decodes-accepted}
+use Rattle.decoding.specs.Contract.{outcome, Decodes}
+use Rattle.decoding.specs.declared.answer.Decoded.{Decoded}
+use Rattle.decoding.specs.declared.answer.Decoded.the-variants.{Entries, Refused}
+use Rattle.decoding.proofs.Decodes.{decodes-refused, decodes-accepted}
 
 -- ---- an answer is known by its number and value
 

@@ -40,10 +40,10 @@ use Rattle.record.proofs.SamplePhrase as sample-record
 use Rattle.entries.specs.Entry.{Entry, noRow}
 use Rattle.entries.specs.Words.{allWords}
 use Rattle.entries.specs.Ranking.{ranked, rankOnto}
-use Rattle.decode.specs.Report.{reportedIn}
-use Rattle.decode.specs.EntryOf.{entryBy, entryOf, entriesOf}
-use Rattle.decode.specs.Contract.{outcome, outcomeOf, Decodes}
-use Rattle.decode.specs.declared.answer.Decoded.{Decoded}
+use Rattle.decoding.specs.Report.{reportedIn}
+use Rattle.decoding.specs.EntryOf.{entryBy, entryOf, entriesOf}
+use Rattle.decoding.specs.Contract.{outcome, outcomeOf, Decodes}
+use Rattle.decoding.specs.declared.answer.Decoded.{Decoded}
 
 -- ---- "this phrase": the sample, from its 1,376 bytes to the words of the listing
 

@@ -12,11 +12,11 @@ use Rattle.record.specs.Meaning.{phraseOf}
 use Rattle.record.specs.declared.refusal.Refusal.{Refusal}
 use Rattle.entries.specs.Words.{allWords}
 use Rattle.entries.specs.Ranking.{ranked}
-use Rattle.decode.specs.EntryOf.{entriesOf}
-use Rattle.decode.specs.Contract.{outcomeOf, Decodes}
-use Rattle.decode.specs.declared.answer.Decoded.the-variants.{Entries, Refused}
-use Rattle.decode.proofs.Calls.{own-rules}
-use Rattle.decode.proofs.Demands.{demands, ranking}
+use Rattle.decoding.specs.EntryOf.{entriesOf}
+use Rattle.decoding.specs.Contract.{outcomeOf, Decodes}
+use Rattle.decoding.specs.declared.answer.Decoded.the-variants.{Entries, Refused}
+use Rattle.decoding.proofs.Calls.{own-rules}
+use Rattle.decoding.proofs.Demands.{demands, ranking}
 
 module _ (bytes : List ℕ) (best : List Float) (back out : List ℕ) where
   abbrev refusal : Option Refusal

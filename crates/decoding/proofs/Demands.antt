@@ -24,10 +24,10 @@ use Rattle.entries.specs.Ranking.{ranked, Ranked}
 use Rattle.entries.proofs.EntryWords.{length-allWords}
 use Rattle.entries.proofs.Ranks.{all-ranked, ranked-is}
 use Rattle.entries.proofs.RankedWords.{length-ranked}
-use Rattle.decode.specs.EntryOf.{entryFor, entryBy, entryOf, entriesOf}
-use Rattle.decode.specs.Contract.{Meets, MeetsEach, all-met, each-met}
-use Rattle.decode.proofs.Bounded.{phrase-fit, bounded}
-use Rattle.decode.proofs.Units.{length-units}
+use Rattle.decoding.specs.EntryOf.{entryFor, entryBy, entryOf, entriesOf}
+use Rattle.decoding.specs.Contract.{Meets, MeetsEach, all-met, each-met}
+use Rattle.decoding.proofs.Bounded.{phrase-fit, bounded}
+use Rattle.decoding.proofs.Units.{length-units}
 
 -- what holds of no candidates, and of one more that is as P says, holds of a list of such
 each-candidate :

@@ -9,7 +9,7 @@ use Rattle.phrase.specs.Phrase.{Phrase, Candidate}
 use Rattle.paths.specs.Demand.{Answer, found, none, unvoiced, answerNumber}
 use Rattle.paths.specs.Search.{chosen}
 use Rattle.entries.specs.Entry.{ReportedUnit, Entry, noRow}
-use Rattle.decode.specs.Report.{lowEdge, reportedUnits}
+use Rattle.decoding.specs.Report.{lowEdge, reportedUnits}
 
 -- "No path: f32 k × unvoiced, widened": an f32 is the same value when it is widened.
 abbrev pub missedTotal : Phrase → ℕ → Float

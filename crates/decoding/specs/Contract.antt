@@ -16,9 +16,9 @@ use Rattle.record.specs.Refusals.{numberOf, refusalWith}
 use Rattle.record.specs.Meaning.{phraseOf}
 use Rattle.record.specs.declared.limits.Limits.{Limits}
 use Rattle.record.specs.declared.refusal.Refusal.{Refusal}
-use Rattle.decode.specs.EntryOf.{entryFor, entriesOf}
-use Rattle.decode.specs.declared.answer.Decoded.{Decoded}
-use Rattle.decode.specs.declared.answer.Decoded.the-variants.{Entries, Refused}
+use Rattle.decoding.specs.EntryOf.{entryFor, entriesOf}
+use Rattle.decoding.specs.declared.answer.Decoded.{Decoded}
+use Rattle.decoding.specs.declared.answer.Decoded.the-variants.{Entries, Refused}
 
 -- ---- the answer
 

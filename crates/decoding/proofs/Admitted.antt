@@ -9,10 +9,17 @@ use lib.ListN.{length, getD, List·getD-append, length-append}
 use lib.Seq.{getD-append-seam}
 use Rattle.phrase.specs.Phrase.{Phrase, Stage}
 use Rattle.paths.specs.declared.passes.Strictness.{Strictness}
-use Rattle.paths.specs.StageProblem.{problemOf}
+use Rattle.paths.specs.Anchors.{kept}
+use Rattle.paths.specs.Units.{admitsUnit}
+use Rattle.paths.specs.StageProblem.{boundary, problemOf}
 use Rattle.paths.specs.Marks.{Bounds}
 use Rattle.paths.proofs.PathUnits.{InOrder, no-units, later-end, one-more}
-use Rattle.decode.proofs.Placing.{UnitOk}
+
+-- a unit that a stage admits, in a strict or a relaxed pass
+pub record UnitOk (phrase : Phrase) (stage : Stage) (strictness : Strictness) (unit : Bounds) : Type 0 where
+  pub forward : unit .first < unit .last
+  pub inside : unit .last < length (stage .boundaries)
+  pub admitted : T (admitsUnit strictness (kept phrase stage) (boundary stage (unit .first)) (boundary stage (unit .last)))
 
 abbrev pub noBounds : Bounds
 noBounds = record { first = 0; last = 0 }

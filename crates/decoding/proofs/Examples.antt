@@ -8,8 +8,8 @@ use lib.IntN.{negsuc}
 use lib.Ieee.{fin, mul, ofInt}
 use Rattle.phrase.specs.Phrase.{silent}
 use Rattle.entries.specs.Entry.{Entry, noRow}
-use Rattle.decode.specs.EntryOf.{entryOf, missedTotal}
-use Rattle.decode.proofs.Group.{workedEntry, nought, stageOf, candidate, plainPhrase, zeroPhrase}
+use Rattle.decoding.specs.EntryOf.{entryOf, missedTotal}
+use Rattle.decoding.proofs.Group.{workedEntry, nought, stageOf, candidate, plainPhrase, zeroPhrase}
 
 -- an entry of candidate 1 without any score, by its pass and its one unit
 abbrev entry : ℕ → ℕ → ℕ → ℕ → Entry

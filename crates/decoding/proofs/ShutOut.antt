@@ -17,13 +17,13 @@ use Rattle.record.specs.Sample.{sample}
 use Rattle.record.specs.declared.refusal.Refusal.the-variants.{Track}
 use Rattle.record.proofs.SamplePhrase as sample-record
 use Rattle.entries.specs.Entry.{Entry}
-use Rattle.decode.specs.EntryOf.{entryOf}
-use Rattle.decode.specs.Contract.{Meets, Decodes}
-use Rattle.decode.specs.declared.answer.Decoded.{Decoded}
-use Rattle.decode.specs.declared.answer.Decoded.the-variants.{Refused}
-use Rattle.decode.proofs.Bounded.{phrase-fit}
-use Rattle.decode.proofs.Demands.{same-pass}
-use Rattle.decode.proofs.Group.{workedWords, sample-candidates, sample-decoded}
+use Rattle.decoding.specs.EntryOf.{entryOf}
+use Rattle.decoding.specs.Contract.{Meets, Decodes}
+use Rattle.decoding.specs.declared.answer.Decoded.{Decoded}
+use Rattle.decoding.specs.declared.answer.Decoded.the-variants.{Refused}
+use Rattle.decoding.proofs.Bounded.{phrase-fit}
+use Rattle.decoding.proofs.Demands.{same-pass}
+use Rattle.decoding.proofs.Group.{workedWords, sample-candidates, sample-decoded}
 
 abbrev figure : Outcome ℕ → ℕ
 figure (accepted n) = 0

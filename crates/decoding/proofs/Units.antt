@@ -11,8 +11,8 @@ use Rattle.paths.specs.Marks.{Bounds, unitsOf}
 use Rattle.paths.specs.Anchors.{Anchor}
 use Rattle.paths.specs.Demand.{Answer, Demanded, a-path, no-path, no-nucleus}
 use Rattle.paths.proofs.PathUnits.{units-count}
-use Rattle.decode.specs.Report.{heldBy, placed, reportedUnit, reportedIn}
-use Rattle.decode.specs.EntryOf.{unitsFor}
+use Rattle.decoding.specs.Report.{heldBy, placed, reportedUnit, reportedIn}
+use Rattle.decoding.specs.EntryOf.{unitsFor}
 
 length-reportAfter : (low : ℕ) (units : List Placed) → length (reportAfter low units) ≡ length units
 unfolding reportAfter

@@ -1,0 +1,11 @@
+-- What holds of every decoder that meets the contract, and what helps to show that one does.
+pub mod Calls
+pub mod Bounded
+pub mod Units
+pub mod Admitted
+pub mod Demands
+pub mod Decodes
+pub mod OneOutcome
+mod Group
+mod Examples
+mod ShutOut
