@@ -1,14 +1,12 @@
 -- The candidates in their order: after each, the output holds the entries so far, ranked.
 use Prim.Native.Nat.{ℕ, zero, suc, _+_, _*_, _<_}
-use mathlib.Core.Bool.{Bool, true, false, cond}
 use mathlib.Core.List.{List, [], _∷_, _++_, map}
 use mathlib.Core.Option.{none}
 use mathlib.Core.Path.{_≡_, refl, sym, ap, ap₂, _∙_}
 use native.Mathlib.Omega.{arith}
 use native.Mathlib.Numerals.{add-one}
 use lib.ListN.{length, take, drop, length-map}
-use lib.Seq.{take-suc, drop-drop, length-take-le}
-use Rattle.ieee.specs.TotalOrder.{totalBefore}
+use lib.Seq.{take-suc, take-length, drop-drop, length-take-le}
 use Rattle.phrase.specs.Phrase.{Phrase, Candidate}
 use Rattle.record.specs.Edition.{edition1}
 use Rattle.record.specs.Meaning.{phraseOf}
@@ -16,25 +14,12 @@ use Rattle.record.specs.Refusals.{refusalOf}
 use Rattle.record.specs.Reading.{candidateOf}
 use Rattle.entries.specs.Entry.{Entry}
 use Rattle.entries.specs.Words.{allWords}
-use Rattle.entries.specs.Ranking.{insert, rankOnto, ranked}
+use Rattle.entries.specs.Ranking.{rankOnto, ranked}
 use Rattle.entries.specs.Placing.{Fit, All, Inserted}
 use Rattle.entries.proofs.Ranks.{all-ranked, ranked-more}
+use Rattle.entries.proofs.RankedWords.{length-ranked}
 use Rattle.decoding.specs.EntryOf.{entryOf, entriesOf}
 use Rattle.decoding.proofs.Demands.{entries-fit}
-
-length-insert : (e : Entry) (es : List Entry) → length (insert e es) ≡ suc (length es)
-unfolding insert
-length-insert e [] = refl
-length-insert e (x ∷ xs) = go (totalBefore (x .llr) (e .llr)) (length-insert e xs)
-  where
-    go : (b : Bool) → length (insert e xs) ≡ suc (length xs) → length (cond b (e ∷ x ∷ xs) (x ∷ insert e xs)) ≡ suc (suc (length xs))
-    go true known = refl
-    go false known = ap suc known
-
-length-onto : (done es : List Entry) → length (rankOnto done es) ≡ length done + length es
-unfolding rankOnto
-length-onto done [] = omega arith
-length-onto done (e ∷ es) = length-onto (insert e done) es ∙ omega (arith, length-insert e done)
 
 module _ (phrase : Phrase) where
   -- the entries of the first n candidates
@@ -55,10 +40,6 @@ module _ (phrase : Phrase) where
   all-first [] (suc n) fits = All.none
   all-first (c ∷ cs) (suc n) (All.more fit fits) = All.more fit (all-first cs n fits)
 
-  all-there : (cs : List Candidate) → map (entryOf phrase) (take (length cs) cs) ≡ map (entryOf phrase) cs
-  all-there [] = refl
-  all-there (c ∷ cs) = ap (λ (es : List Entry). entryOf phrase c ∷ es) (all-there cs)
-
   -- what the output holds after n candidates, from what it held before all of them
   abbrev pub heldAfter : ℕ → List ℕ → List ℕ
   heldAfter n out = allWords (edition1 .units) (ranked (firstEntries n)) ++ drop (n * edition1 .«entry_words») out
@@ -68,7 +49,7 @@ module _ (phrase : Phrase) where
   none-held out = refl
 
   pub every-entry : firstEntries (length (phrase .candidates)) ≡ entriesOf phrase
-  every-entry = all-there (phrase .candidates)
+  every-entry = ap (map (entryOf phrase)) (take-length (phrase .candidates))
 
 module _ (bytes : List ℕ) (accepted : refusalOf bytes ≡ none) where
   abbrev phrase : Phrase
@@ -78,7 +59,7 @@ module _ (bytes : List ℕ) (accepted : refusalOf bytes ≡ none) where
       → Inserted (edition1 .units) n (entryOf phrase (candidateOf phrase n)) before after → after ≡ heldAfter phrase (n + 1) out
   next-held n out below held inserted =
       let counted : length (ranked (firstEntries phrase n)) ≡ n =
-      length-onto [] (firstEntries phrase n) ∙ omega (arith, length-map (take n (phrase .candidates)) (entryOf phrase), length-take-le n (phrase .candidates) (omega arith)) in
+      length-ranked (firstEntries phrase n) ∙ omega (arith, length-map (take n (phrase .candidates)) (entryOf phrase), length-take-le n (phrase .candidates) (omega arith)) in
       let e : n * 52 + 52 ≡ (n + 1) * 52 = omega arith in
       inserted .ranked (ranked (firstEntries phrase n)) (drop (n * 52) out) (all-ranked _ (all-first phrase (phrase .candidates) n (entries-fit bytes accepted))) counted held
       ∙ ap₂ (λ (es : List Entry) (rest : List ℕ). allWords 16 es ++ rest)

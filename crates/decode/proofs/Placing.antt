@@ -1,12 +1,13 @@
 -- The units that the look-ahead tables place are the ones to report.
 use Prim.Native.Nat.{ℕ, _-_, _≤_, _<_}
-use mathlib.Core.Bool.{Bool, true, false, not, cond, _&&_}
+use mathlib.Core.Bool.{Bool, true, false, not, cond}
 use mathlib.Core.List.{List, [], _∷_}
 use mathlib.Core.Path.{_≡_, refl, sym, ap, subst, _∙_}
 use native.Mathlib.Omega.{arith}
 use borrow.Author.Tests.{lt-ltb, le-ltb, ne-eqb}
-use lib.Dec.{T, ltb, leb, eqb, ltb→lt, nltb→le, leb→le, eqb→eq}
+use lib.Dec.{T, ltb, eqb, ltb→lt, nltb→le, leb→le, eqb→eq}
 use lib.ListN.{length}
+use lib.Ieee.Fits.{and-r}
 use Rattle.phrase.specs.Phrase.{Phrase, Stage}
 use Rattle.paths.specs.declared.passes.Strictness.{Strictness}
 use Rattle.paths.specs.declared.passes.Strictness.the-variants.{Strict, Relaxed}
@@ -37,10 +38,6 @@ placeFor phrase stage unit anchors =
 abbrev pub placeIn : Phrase → Stage → Bounds → PlacedUnit
 placeIn phrase stage unit = placeFor phrase stage unit (heldBy phrase stage unit)
 
-right-half : (a b : Bool) → T (a && b) → T b
-right-half true b t = t
-right-half false b t = absurd t
-
 held-few : (strictness : Strictness) (n : ℕ) → T (mayHold strictness n) → n ≤ 1
 held-few Strict n t = omega (arith, eqb→eq n 1 t)
 held-few Relaxed n t = leb→le n 1 t
@@ -58,7 +55,7 @@ module _ (phrase : Phrase) (stage : Stage) (up : Increasing (stage .anchors)) (l
 
     few : length (heldBy phrase stage unit) ≤ 1
     unfolding admitsUnit
-    few = held-few strictness _ (right-half (fitsUnit (to - from)) _ (ok .admitted))
+    few = held-few strictness _ (and-r (fitsUnit (to - from)) _ (ok .admitted))
 
     no-second : to ≤ secondAhead beyond (kept phrase stage) from
     no-second = go (ltb (secondAhead beyond (kept phrase stage) from) to) (ltb→lt _ to) (nltb→le _ to)

@@ -3,9 +3,10 @@ use Prim.Native.Nat.{ℕ, zero, suc, _+_, _-_, _≤_, _<_}
 use mathlib.Core.Bool.{cond}
 use mathlib.Core.List.{List, [], _∷_, _++_, map, zipWith}
 use mathlib.Core.Path.{_≡_, refl, sym, ap, ap₂, _∙_}
+use native.Mathlib.Nat.{zero-add}
 use native.Mathlib.Omega.{arith}
 use lib.Dec.{eqb}
-use lib.ListN.{length, getD, take, replicate, length-map, length-replicate, List·getD-append, length-append}
+use lib.ListN.{length, getD, take, replicate, length-map, length-replicate, List·getD-append, List·getD-map, length-append}
 use lib.Seq.{ext-getD, getD-take, length-take-le}
 use Rattle.phrase.specs.Phrase.{Phrase, Stage}
 use Rattle.paths.specs.declared.passes.Strictness.{Strictness}
@@ -26,7 +27,7 @@ use Rattle.prepare.specs.declared.side.Side.{Side}
 use Rattle.prepare.specs.Sides.{durationsOf, SideOf}
 use Rattle.prepare.proofs.Lists.{its-length, its-front}
 use Rattle.clip.specs.Clip.{Placed, anchored, unanchored, reported}
-use Rattle.clip.specs.Units.{unitAt, unitsFrom, unitsOf}
+use Rattle.clip.specs.Units.{unitAt, unitsFrom}
 use Rattle.clip.specs.declared.clip.Span.{Span}
 use Rattle.entries.specs.Entry.{noRow}
 use Rattle.decode.specs.declared.report.PlacedUnit.{PlacedUnit}
@@ -37,44 +38,17 @@ use Rattle.decoding.proofs.Units.{length-reported, length-reportedIn}
 use Rattle.decoding.proofs.Admitted.{UnitOk, noBounds}
 use Rattle.decode.proofs.Placing.{placeIn, placed-by-tables, told-by-row}
 
--- ---- lists by index
-
-getD-map : {A B : Type 0} (f : A → B) (xs : List A) (i : ℕ) (d : A) → getD (map f xs) i (f d) ≡ f (getD xs i d)
-getD-map f [] i d = refl
-getD-map f (x ∷ xs) zero d = refl
-getD-map f (x ∷ xs) (suc i) d = getD-map f xs i d
-
-listed-map : {A : Type 0} (f : ℕ → ℕ) (g : A → ℕ) (xs : List A) (d : A) → ((i : ℕ) → i < length xs → f i ≡ g (getD xs i d)) → listed f (length xs) ≡ map g xs
-listed-map f g xs d same =
-    ext-getD (g d) _ _ (length-listed f (length xs) ∙ sym (length-map xs g))
-    (λ i h. let below : i < length xs = omega (arith, length-listed f (length xs)) in listed-at f (length xs) (g d) i below ∙ same i below ∙ sym (getD-map g xs i d))
-
 -- ---- units in arrays, one by one
 
-module _ (starts ends rows : List ℕ) (s e r : ℕ) where
-  units-shift : (i n : ℕ) → unitsFrom (s ∷ starts) (e ∷ ends) (r ∷ rows) (suc i) n ≡ unitsFrom starts ends rows i n
+module _ (starts ends rows : List ℕ) (unit : Bounds → Placed) where
+  units-from : (bs : List Bounds) (i : ℕ) → ((j : ℕ) → j < length bs → unitAt starts ends rows (i + j) ≡ unit (getD bs j noBounds))
+      → unitsFrom starts ends rows i (length bs) ≡ map unit bs
   unfolding unitsFrom
-  units-shift i zero = refl
-  units-shift i (suc n) =
-      let next : suc i + 1 ≡ suc (i + 1) = omega arith in
-      ap (λ (us : List Placed). unitAt starts ends rows i ∷ us)
-      (ap (λ (m : ℕ). unitsFrom (s ∷ starts) (e ∷ ends) (r ∷ rows) m n) next ∙ units-shift (i + 1) n)
-
-module _ (place : Bounds → PlacedUnit) (unit : Bounds → Placed) where
-  abbrev Tells : Bounds → Type 0
-  Tells b = let span : Span = record { start = place b .start; end = place b .end } in cond (eqb (place b .row) noRow) (unanchored span) (anchored span) ≡ unit b
-
-  units-all : (bs : List Bounds) → ((i : ℕ) → i < length bs → Tells (getD bs i noBounds))
-      → unitsFrom (map (λ b. place b .start) bs) (map (λ b. place b .end) bs) (map (λ b. place b .row) bs) 0 (length bs) ≡ map unit bs
-  unfolding unitsFrom
-  units-all [] told = refl
-  units-all (b ∷ bs) told =
-      ap₂ (λ (u : Placed) (us : List Placed). u ∷ us) (told 0 (omega arith)) (units-shift _ _ _ _ _ _ 0 (length bs) ∙ units-all bs (λ i h. told (suc i) (omega arith)))
-
-  units-map : (bs : List Bounds) → ((i : ℕ) → i < length bs → Tells (getD bs i noBounds))
-      → unitsOf (map (λ b. place b .start) bs) (map (λ b. place b .end) bs) (map (λ b. place b .row) bs) ≡ map unit bs
-  units-map bs told =
-      ap (unitsFrom (map (λ b. place b .start) bs) (map (λ b. place b .end) bs) (map (λ b. place b .row) bs) 0) (length-map bs (λ b. place b .row)) ∙ units-all bs told
+  units-from [] i told = refl
+  units-from (b ∷ bs) i told =
+      let first : i ≡ i + 0 = omega arith in
+      ap₂ (λ (u : Placed) (us : List Placed). u ∷ us) (ap (unitAt starts ends rows) first ∙ told 0 (omega arith))
+      (units-from bs (i + 1) (λ j h. let next : i + 1 + j ≡ i + suc j = omega arith in ap (unitAt starts ends rows) next ∙ told (suc j) (omega arith)))
 
 -- ---- what is reported, by index
 
@@ -123,7 +97,7 @@ module _ {phrase : Phrase} {stage : Stage} {strictness : Strictness} {side : Sid
   number-is f none e i h =
       ap (λ (l : List ℕ). getD l i 0) e
       ∙ List·getD-append (map f bs) _ 0 i (omega (arith, length-map bs f))
-      ∙ ap (getD (map f bs) i) (sym none) ∙ getD-map f bs i noBounds
+      ∙ ap (getD (map f bs) i) (sym none) ∙ List·getD-map f bs i noBounds
 
   first-is : (i : ℕ) → i < length bs → getD (units .first) i 0 ≡ unit i .first
   first-is = number-is (λ b. b .first) refl (f .are .firsts)
@@ -195,12 +169,18 @@ module _ {phrase : Phrase} {stage : Stage} {strictness : Strictness} {side : Sid
 
   placed-is : placedList side lo hi units (length bs) ≡ map (placed phrase stage) bs
   placed-is =
-      (λ x. unitsOf
-      (listed-map _ (λ b. place b .start) bs noBounds (λ i h. ap (λ (p : PlacedUnit). p .start) (place-is i h)) x)
-      (listed-map _ (λ b. place b .end) bs noBounds (λ i h. ap (λ (p : PlacedUnit). p .end) (place-is i h)) x)
-      (listed-map _ (λ b. place b .row) bs noBounds (λ i h. ap (λ (p : PlacedUnit). p .row) (place-is i h)) x))
-      ∙ units-map place (placed phrase stage) bs
-      (λ i h. told-by-row phrase stage (f .up) (f .last) (f .ok i h) (f .rows _ (omega (arith, f .ok i h .forward, f .ok i h .inside))))
+      ap (unitsFrom (column (λ p. p .start)) (column (λ p. p .end)) (column (λ p. p .row)) 0) (length-listed _ (length bs))
+      ∙ units-from _ _ _ (placed phrase stage) bs 0 (λ i h. (λ x. told (at (λ p. p .start) i h x) (at (λ p. p .end) i h x) (at (λ p. p .row) i h x))
+      ∙ told-by-row phrase stage (f .up) (f .last) (f .ok i h) (f .rows _ (omega (arith, f .ok i h .forward, f .ok i h .inside))))
+    where
+      column : (PlacedUnit → ℕ) → List ℕ
+      column figure = listed (λ i. figure (placeAt side lo hi units i)) (length bs)
+
+      at : (figure : PlacedUnit → ℕ) (i : ℕ) → i < length bs → getD (column figure) (0 + i) 0 ≡ figure (place (unit i))
+      at figure i h = ap (λ (n : ℕ). getD (column figure) n 0) (zero-add i) ∙ listed-at _ (length bs) 0 i h ∙ ap figure (place-is i h)
+
+      told : ℕ → ℕ → ℕ → Placed
+      told start end row = let span : Span = record { start = start; end = end } in cond (eqb row noRow) (unanchored span) (anchored span)
 
   spans-long : length spans ≡ length bs
   spans-long = length-reported (map (placed phrase stage) bs) ∙ length-map bs (placed phrase stage)
@@ -216,7 +196,7 @@ module _ {phrase : Phrase} {stage : Stage} {strictness : Strictness} {side : Sid
     figure-at : (i : ℕ) → i < length bs → getD numbers i 0 ≡ figure (getD spans i noSpan)
     figure-at i h =
         ap (λ (l : List ℕ). getD l i 0) figures ∙ padded-in (map figure spans) 16 0 0 i (omega (arith, figures-count))
-        ∙ ap (getD (map figure spans) i) (sym none) ∙ getD-map figure spans i noSpan
+        ∙ ap (getD (map figure spans) i) (sym none) ∙ List·getD-map figure spans i noSpan
 
     figures-long : length numbers ≡ 16
     figures-long = ap length figures ∙ length-padded (map figure spans) 16 0 (omega (arith, figures-count, f .few))

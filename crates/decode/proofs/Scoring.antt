@@ -1,17 +1,19 @@
 -- From what the search says of a candidate to its entry.
 use Prim.Native.Nat.{ℕ, _+_, _≤_, _<_}
+use mathlib.Core.Bool.{not}
 use mathlib.Core.List.{List}
-use mathlib.Core.Path.{_≡_, refl, sym, ap, subst, subst⁻¹, _∙_}
+use mathlib.Core.Path.{_≡_, refl, sym, ap, subst, _∙_}
 use native.Mathlib.Omega.{arith}
+use lib.Dec.{T}
 use lib.ListN.{length, getD, length-replicate}
-use lib.Ieee.{Float}
+use lib.Ieee.{Float, isNan}
 use Rattle.ieee.specs.Convert.{ClampedLog, clampedLog}
 use Rattle.phrase.specs.Phrase.{Phrase, Stage, Candidate}
 use Rattle.paths.specs.declared.passes.Strictness.{Strictness}
 use Rattle.paths.specs.declared.passes.Pass.{Pass}
 use Rattle.paths.specs.declared.passes.Pass.the-variants.{NucleiStrict, CountStrict, CountRelaxed, NucleiRelaxed}
 use Rattle.paths.specs.Path.{Path, count, Admitted}
-use Rattle.paths.specs.Passes.{passProblem, nonEmpty, inOrder}
+use Rattle.paths.specs.Passes.{passProblem, inOrder}
 use Rattle.paths.specs.Demand as D
 use Rattle.paths.specs.Demand.{Answer, answerNumber}
 use Rattle.paths.specs.Search.{chosen}
@@ -43,7 +45,7 @@ use Rattle.entries.specs.declared.words.EntryHead.{EntryHead}
 use Rattle.decode.specs.declared.plan.Plan.{Plan}
 use Rattle.decode.specs.declared.report.Reported.{Reported}
 use Rattle.decode.specs.declared.entry.Scored.{Scored}
-use Rattle.decoding.specs.Report.{lowEdge, highEdge, reportedIn, reportedUnits}
+use Rattle.decoding.specs.Report.{lowEdge, reportedIn, reportedUnits}
 use Rattle.decoding.specs.Report as Report
 use Rattle.decoding.specs.EntryOf.{missedTotal, missedUnits, totalOf, unitsFor, entryFor, entryBy, entryOf}
 use Rattle.decode.specs.Places.{Placeable, ReportedAll, missedAt, missedBy, Holds}
@@ -53,7 +55,7 @@ use Rattle.decoding.proofs.Demands.{answered}
 use Rattle.decoding.proofs.Units.{length-reportedIn}
 use Rattle.decode.proofs.Reporting as Reporting
 use Rattle.decode.proofs.Said.{FoundPath, says-found, says-none, says-unvoiced}
-use Rattle.decode.proofs.Tried.{first-there, counted, relaxed}
+use Rattle.decode.proofs.Tried.{added-exists}
 use Rattle.decoding.proofs.Admitted.{each-ok}
 use Rattle.decode.proofs.HeldUnits.{held-units, missed-hold}
 
@@ -142,16 +144,12 @@ module _ {bytes : List ℕ} {at : Layout} (h : Laid bytes at) where
                 → Admitted (passProblem phrase pass columns) path → D.FirstOf phrase columns pass (inOrder phrase)
                 → Reporting.Found phrase (passStage phrase pass) (passStrictness pass) (sideFor plan pass) (searched .units) (unitsOf path)
             go NucleiStrict path are few admitted first = found-in Nuclei _ columns (planned .nuclei) are few admitted
-            go CountStrict path are few admitted first =
-                found-in Count _ columns (planned .added .there (counted (nonEmpty (phrase .added .anchors)) (first-there first))) are few admitted
-            go CountRelaxed path are few admitted first =
-                found-in Count _ columns (planned .added .there (relaxed (nonEmpty (phrase .added .anchors)) (first-there first))) are few admitted
+            go CountStrict path are few admitted first = found-in Count _ columns (planned .added .there (added-exists first tt)) are few admitted
+            go CountRelaxed path are few admitted first = found-in Count _ columns (planned .added .there (added-exists first tt)) are few admitted
             go NucleiRelaxed path are few admitted first = found-in Nuclei _ columns (planned .nuclei) are few admitted
 
         pub can-place : {side : Side} {k : ℕ} → side ≡ sideFor plan pass → k ≡ length columns → Placeable side (searched .units) k
-        can-place {side} {k} s counted =
-            subst⁻¹ (λ (x : Side). Placeable x (searched .units) k) s
-            (subst⁻¹ (Placeable (sideFor plan pass) (searched .units)) (counted ∙ sym units-few) (Reporting.placeable path-found))
+        can-place s counted = coe 1 0 (i. Placeable (s i) (searched .units) ((counted ∙ sym units-few) i)) (Reporting.placeable path-found)
 
         module _ {side : Side} {k id number : ℕ} {llr : Float} {units : Reported}
             (s : side ≡ sideFor plan pass) (counted : k ≡ length columns) (named : id ≡ chosenOne .id) (numbered : number ≡ numberOf (searched .answer))
@@ -159,10 +157,7 @@ module _ {bytes : List ℕ} {at : Layout} (h : Laid bytes at) where
           holds : Holds (reportedIn phrase (passStage phrase pass) (unitsOf (it .path))) units
           holds =
               Reporting.reports path-found
-              (subst (λ (n : ℕ). ReportedAll (sideFor plan pass) (lowEdge (phrase .speech)) (highEdge (phrase .speech)) (searched .units) n units) (counted ∙ sym units-few)
-              (subst (λ (n : ℕ). ReportedAll (sideFor plan pass) (lowEdge (phrase .speech)) n (searched .units) k units) (planned .high)
-              (subst (λ (n : ℕ). ReportedAll (sideFor plan pass) n (plan .«hi_edge») (searched .units) k units) (planned .low)
-              (subst (λ (x : Side). ReportedAll x (plan .«lo_edge») (plan .«hi_edge») (searched .units) k units) s all))))
+              (coe 0 1 (i. ReportedAll (s i) (planned .low i) (planned .high i) (searched .units) ((counted ∙ sym units-few) i) units) all)
 
           units-are : unitsFrom (units .starts) (units .ends) (units .rows) k 0 ≡ reportedUnits phrase pass (it .path)
           units-are =
@@ -173,7 +168,7 @@ module _ {bytes : List ℕ} {at : Layout} (h : Laid bytes at) where
           pub scored-found : ScoredAs (entryOf phrase chosenOne) (record { head = record { id = id; llr = llr; pass = number; units = k }; units = units })
           unfolding entryBy entryFor
           scored-found =
-              subst⁻¹ (λ (a : Answer). ScoredAs (entryFor phrase chosenOne a) (record { head = record { id = id; llr = llr; pass = number; units = k }; units = units })) (it .is)
+              coe 1 0 (i. ScoredAs (entryFor phrase chosenOne (it .is i)) (record { head = record { id = id; llr = llr; pass = number; units = k }; units = units }))
               (record {
                 whole = λ i. record { id = named i; pass = (numbered ∙ ap numberOf e) i; total = total; llr = clamped .value i; units = units-are i };
                 number = clamped .comparable .number;
@@ -190,30 +185,33 @@ module _ {bytes : List ℕ} {at : Layout} (h : Laid bytes at) where
           → MissedEntry id k number (plan .costs .unvoiced) (plan .«lo_edge») r → ScoredAs (entryOf phrase chosenOne) r
       unfolding entryBy entryFor
       scored-missed a is totals spans {k} {id} {number} {r} counted named numbered missed =
-          let lo : plan .«lo_edge» ≡ lowEdge (phrase .speech) = planned .low in
-          let held : Holds (missedUnits phrase (length columns)) (missedAt (lowEdge (phrase .speech))) = missed-hold (length columns) (lowEdge (phrase .speech)) few-units in
-          let arrays : r .units ≡ missedAt (lowEdge (phrase .speech)) = missed .units ∙ ap missedAt lo in
-          let holds : Holds (missedUnits phrase (length columns)) (r .units) = subst⁻¹ (Holds (missedUnits phrase (length columns))) arrays held in
-          let k-is : r .head .units ≡ length columns = ap (λ (x : EntryHead). x .units) (missed .head) ∙ counted in
-          let units-are : unitsFrom (r .units .starts) (r .units .ends) (r .units .rows) (r .head .units) 0 ≡ unitsFor phrase (length columns) a =
-          ap (λ (n : ℕ). unitsFrom (r .units .starts) (r .units .ends) (r .units .rows) n 0) (k-is ∙ sym (length-replicate (length columns) _)) ∙ held-units holds ∙ sym spans in
-          let llr-is : r .head .llr ≡ clampedLog (totalOf phrase (length columns) a) =
-          ap (λ (x : EntryHead). x .llr) (missed .head) ∙ (λ i. clampedLog (missedBy (counted i) (planned .costs i .unvoiced))) ∙ ap clampedLog (sym totals) in
-          subst⁻¹ (λ (b : Answer). ScoredAs (entryFor phrase chosenOne b) r) is
+          coe 1 0 (i. ScoredAs (entryFor phrase chosenOne (is i)) (record { head = head i; units = (missed .units ∙ ap missedAt (planned .low)) i }))
           (record {
-            whole = λ i. record {
-              id = (ap (λ (x : EntryHead). x .id) (missed .head) ∙ named) i;
-              pass = (ap (λ (x : EntryHead). x .pass) (missed .head) ∙ numbered) i;
-              total = totalOf phrase (length columns) a;
-              llr = llr-is i;
-              units = units-are i;
-            };
-            number = missed .number;
-            few = omega (arith, k-is, few-units);
-            starts = holds .startsLong;
-            ends = holds .endsLong;
-            rows = holds .rowsLong;
+            whole = λ i. record { id = chosenOne .id; pass = answerNumber a; total = totalOf phrase n a; llr = clampedLog (totalOf phrase n a); units = units-are i };
+            number = subst (λ (h : EntryHead). T (not (isNan (h .llr)))) head (missed .number);
+            few = few-units;
+            starts = held .startsLong;
+            ends = held .endsLong;
+            rows = held .rowsLong;
           })
+        where
+          n : ℕ
+          n = length columns
+
+          at-start : Reported
+          at-start = missedAt (lowEdge (phrase .speech))
+
+          held : Holds (missedUnits phrase n) at-start
+          held = missed-hold n (lowEdge (phrase .speech)) few-units
+
+          units-are : unitsFrom (at-start .starts) (at-start .ends) (at-start .rows) n 0 ≡ unitsFor phrase n a
+          units-are = ap (λ (m : ℕ). unitsFrom (at-start .starts) (at-start .ends) (at-start .rows) m 0) (sym (length-replicate n _)) ∙ held-units held ∙ sym spans
+
+          llr : clampedLog (missedBy k (plan .costs .unvoiced)) ≡ clampedLog (totalOf phrase n a)
+          llr = (λ i. clampedLog (missedBy (counted i) (planned .costs i .unvoiced))) ∙ ap clampedLog (sym totals)
+
+          head : r .head ≡ record { id = chosenOne .id; llr = clampedLog (totalOf phrase n a); pass = answerNumber a; units = n }
+          head = missed .head ∙ (λ i. record { id = named i; llr = llr i; pass = numbered i; units = counted i })
 
       pub scored-none : searched .answer ≡ None → {k id number : ℕ} {r : Scored} → k ≡ length columns → id ≡ chosenOne .id → number ≡ numberOf (searched .answer)
           → MissedEntry id k number (plan .costs .unvoiced) (plan .«lo_edge») r → ScoredAs (entryOf phrase chosenOne) r

@@ -7,7 +7,7 @@ use mathlib.Core.Path.{_≡_, refl, ap, _∙_}
 use lib.ListN.{length, replicate, drop}
 use lib.IntN.{pos, negsuc}
 use lib.Count.{trailingZeros}
-use lib.Ieee.{Float, fin, binary32, toBits, add, sub, mul, neg, ofInt, lt, round, ofBits, ofFields, isNan}
+use lib.Ieee.{Float, fin, binary32, binary64, toBits, add, sub, mul, neg, ofInt, lt, round, ofBits, ofFields, isNan}
 use Rattle.ieee.specs.Convert.{clamped, narrowed, clampedLog}
 use Rattle.ieee.specs.TotalOrder.{totalBefore}
 use Rattle.phrase.specs.Phrase.{Phrase, Stage, Candidate, Speech, spoken}
@@ -19,9 +19,10 @@ use Rattle.paths.specs.Passes.{hasNucleus}
 use Rattle.paths.specs.Marks.{unitsOf}
 use Rattle.paths.specs.Search.{chosen}
 use Rattle.evidence.specs.Outcome.{accepted}
-use Rattle.evidence.specs.Frames.{highestBelow, lowestFrom, ascendingFrom}
-use Rattle.evidence.specs.Spans.{spanOf, spansOf}
-use Rattle.evidence.specs.Rate.{sorted, gapsAfter, below, firstAt, median, rate}
+use Rattle.evidence.specs.Frames.{highestBelow, lowestFrom}
+use Rattle.evidence.specs.Spans.{spansOf}
+use Rattle.evidence.specs.Rate.{rate}
+use Rattle.evidence.proofs.Examples as evidence
 use Rattle.clip.specs.declared.clip.Span.{Span}
 use Rattle.clip.specs.Clip.{anchored, unanchored, reported}
 use Rattle.clip.proofs.Examples as clip
@@ -102,23 +103,16 @@ unit-frames = refl
 
 -- ---- "frames 10, 30, 60 give rate 0.25; equal frames give the default"
 
-unfoldable workedRate : List ℕ → Float → Float
-unfolding rate sorted gapsAfter below firstAt median add mul ofInt lt ofBits
-workedRate = rate
+pub rate-quarter : (default : Float) → rate (10 ∷ 30 ∷ 60 ∷ []) default ≡ ofBits binary64 0x3fd0_0000_0000_0000
+rate-quarter = evidence.rate-of-three
 
-pub rate-quarter : (default : Float) → rate (10 ∷ 30 ∷ 60 ∷ []) default ≡ fin false 1 (negsuc 1)
-unfolding workedRate
-rate-quarter default = refl
-
-pub rate-default : (default : Float) → rate (30 ∷ 30 ∷ 30 ∷ []) default ≡ default
-unfolding workedRate
-rate-default default = refl
+pub rate-default : (n frame : ℕ) (default : Float) → rate (replicate n frame) default ≡ default
+rate-default = evidence.equal-frames
 
 -- ---- "nuclei 10, 13 with edges 5, 20 and no boundaries give 5..12, 12..20"
 
 pub spans-cut : spansOf (10 ∷ 13 ∷ []) [] 5 20 ≡ record { start = 5; end = 12 } ∷ record { start = 12; end = 20 } ∷ []
-unfolding spanOf ascendingFrom highestBelow lowestFrom
-spans-cut = refl
+spans-cut = evidence.two-spans
 
 -- ---- "clip of 10..22 between anchored 4..14 and 18..30 gives 14..18; first unit 20..28 before anchored 15..30 gives 20..20"
 
