@@ -6,8 +6,10 @@ extern crate self as tonekit_pack;
 extern crate self as tonekit_segment;
 extern crate self as tonekit_shape;
 
+pub mod arguments;
 pub mod brute;
 pub mod damage;
+pub mod every;
 pub mod generate;
 pub mod listing;
 pub mod maker;
@@ -18,6 +20,8 @@ pub mod random;
 pub mod reference;
 pub mod refusal;
 mod standins;
+pub mod tally;
+pub mod wanted;
 
 pub use joins::{Joins, JOIN_TRIM_FRAMES};
 pub use standins::*;

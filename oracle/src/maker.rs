@@ -50,6 +50,8 @@ pub fn encode(p: &Phrase) -> Vec<u8> {
         word(end - start);
     }
     word(end - starts[7]);
+    // so that valgrind sees a read past its end
+    record.shrink_to_fit();
     record
 }
 

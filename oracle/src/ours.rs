@@ -50,12 +50,29 @@ extern "C" {
     ) -> i32;
 }
 
+/// A bare call of `tikuwero_decode` with the buffers lent: M, or minus the number of the refusal.
+pub fn decode(record: &[u8], best: &mut [f64], back: &mut [u32], out: &mut [u32]) -> i32 {
+    // SAFETY: four slices, of which the three that are written overlap nothing.
+    unsafe {
+        tikuwero_decode(
+            record.as_ptr(),
+            record.len(),
+            best.as_mut_ptr(),
+            best.len(),
+            back.as_mut_ptr(),
+            back.len(),
+            out.as_mut_ptr(),
+            out.len(),
+        )
+    }
+}
+
 /// What a call of `tikuwero_decode` answered: the entries' words, or the number of the refusal.
 pub type Decoded = Result<Vec<u32>, i32>;
 
 /// Lent memory, made once and used for every call.
 pub struct Desk {
-    best: Vec<u64>,
+    best: Vec<f64>,
     back: Vec<u32>,
     out: Vec<u32>,
 }
@@ -63,7 +80,7 @@ pub struct Desk {
 impl Default for Desk {
     fn default() -> Self {
         Desk {
-            best: vec![MARK_64; WORK_CELLS + 3 * ZONE],
+            best: vec![f64::from_bits(MARK_64); WORK_CELLS + 3 * ZONE],
             back: vec![MARK; WORK_CELLS + 3 * ZONE],
             out: vec![MARK; 16 * ENTRY_WORDS + 3 * ZONE],
         }
@@ -80,22 +97,15 @@ impl Desk {
         back_len: usize,
         out_len: usize,
     ) -> Result<Decoded, String> {
-        self.best.fill(MARK_64);
+        self.best.fill(f64::from_bits(MARK_64));
         self.back.fill(MARK);
         self.out.fill(MARK);
-        // SAFETY: the three buffers have room for ZONE cells before and behind the lengths lent, and do not overlap.
-        let answer = unsafe {
-            tikuwero_decode(
-                record.as_ptr(),
-                record.len(),
-                self.best.as_mut_ptr().add(ZONE).cast(),
-                best_len,
-                self.back.as_mut_ptr().add(ZONE),
-                back_len,
-                self.out.as_mut_ptr().add(ZONE),
-                out_len,
-            )
-        };
+        let answer = decode(
+            record,
+            &mut self.best[ZONE..ZONE + best_len],
+            &mut self.back[ZONE..ZONE + back_len],
+            &mut self.out[ZONE..ZONE + out_len],
+        );
         let (used, written) = if answer < 0 {
             (0, 0)
         } else {
@@ -109,7 +119,7 @@ impl Desk {
                 (MARK_64, MARK)
             }
         };
-        if !(0..self.best.len()).all(|i| self.best[i] == cell(i).0) {
+        if !(0..self.best.len()).all(|i| self.best[i].to_bits() == cell(i).0) {
             return Err("best is not as it should be".into());
         }
         if !(0..self.back.len()).all(|i| self.back[i] == cell(i).1) {

@@ -100,48 +100,116 @@ fn pass_number(
     (4, None)
 }
 
+/// What the original's decoder is given for a phrase: all that its `decode` has before it makes the decoder.
+pub struct Inputs {
+    analysis: Analysis,
+    pack: LanguagePack,
+    table: Vec<Tbu>,
+    extended: Option<Extended>,
+    candidates: Vec<Candidate>,
+    durations: [[f64; 75]; 2],
+}
+
+impl Inputs {
+    pub fn of(p: &Phrase, given: Given) -> Inputs {
+        let nuclei = side(p, &p.nuclei, &p.boundaries, 0, given);
+        let added = added_side(p, given);
+        Inputs::from_sides(p, &nuclei, added.as_ref())
+    }
+
+    fn from_sides(p: &Phrase, nuclei: &Side, added: Option<&Side>) -> Inputs {
+        let mut table = nuclei.tbus.clone();
+        let mut rows = nuclei.rows.clone();
+        let extended = added.map(|a| {
+            table.extend(a.tbus.iter().cloned());
+            rows.extend(&a.rows);
+            Extended {
+                anchors: a.frames.clone(),
+                bounds: p.added.clone(),
+                tbus: a.tbus.clone(),
+            }
+        });
+        let decode = DecodeParams {
+            filler_per_frame: p.per_frame,
+            insertion_llr: p.insertion_llr,
+            default_rate_s: 0.0,
+            dur_sigma: 0.0,
+        };
+        let candidate = |(id, columns): &(u32, Vec<u8>)| Candidate {
+            id: CandidateId(*id),
+            targets: columns.iter().map(|&tone| ToneTarget { tone }).collect(),
+        };
+        Inputs {
+            analysis: analysis(p, &nuclei.frames, &p.boundaries),
+            pack: LanguagePack {
+                calibration: Calibration { decode },
+                unvoiced: p.unvoiced,
+                scores: rows
+                    .iter()
+                    .flat_map(|&row| p.scores[row as usize].iter().copied())
+                    .collect(),
+                columns: p.columns,
+                rows,
+            },
+            table,
+            extended,
+            candidates: p.candidates.iter().map(candidate).collect(),
+            durations: p.durations,
+        }
+    }
+
+    /// Lends the stand-ins this phrase's duration tables; they serve every [`Inputs::scores`] up to the next phrase's.
+    pub fn lend_durations(&self) {
+        lend_durations(&self.durations);
+    }
+
+    /// Every candidate planned, scored and ranked, as the original's `decode` does from where it makes the decoder: all
+    /// plans before the first score, then a stable order, highest first.
+    pub fn scores(&self) -> Vec<CandidateScore> {
+        begin_decoder();
+        let extended = self.extended.as_ref();
+        let mut decoder = Decoder::new(
+            &self.analysis,
+            &self.pack,
+            &GradingTarget,
+            &self.table,
+            extended,
+        );
+        let plans: Vec<_> = self
+            .candidates
+            .iter()
+            .map(|c| decoder.plan(c).unwrap())
+            .collect();
+        let mut scores: Vec<CandidateScore> = self
+            .candidates
+            .iter()
+            .zip(&plans)
+            .map(|(c, keys)| decoder.score(c, keys).unwrap())
+            .collect();
+        scores.sort_by(|x, y| y.llr.total_cmp(&x.llr));
+        scores
+    }
+}
+
+fn added_side(p: &Phrase, given: Given) -> Option<Side> {
+    (!p.anchors.is_empty()).then(|| side(p, &p.anchors, &p.added, p.nuclei.len(), given))
+}
+
 /// The result words of every candidate, ranked.
 pub fn decode(p: &Phrase, given: Given) -> Vec<u32> {
     let nuclei = side(p, &p.nuclei, &p.boundaries, 0, given);
-    let added =
-        (!p.anchors.is_empty()).then(|| side(p, &p.anchors, &p.added, p.nuclei.len(), given));
-    let mut table = nuclei.tbus.clone();
-    let mut rows = nuclei.rows.clone();
-    let extended = added.as_ref().map(|a| {
-        table.extend(a.tbus.iter().cloned());
-        rows.extend(&a.rows);
-        Extended {
-            anchors: a.frames.clone(),
-            bounds: p.added.clone(),
-            tbus: a.tbus.clone(),
-        }
-    });
-    let pack = LanguagePack {
-        calibration: Calibration {
-            decode: DecodeParams {
-                filler_per_frame: p.per_frame,
-                insertion_llr: p.insertion_llr,
-                default_rate_s: 0.0,
-                dur_sigma: 0.0,
-            },
-        },
-        unvoiced: p.unvoiced,
-        scores: p.scores.clone(),
-        rows,
-    };
-    DURATIONS.with(|d| *d.borrow_mut() = (p.durations.to_vec(), 0));
-    let a = analysis(p, &nuclei.frames, &p.boundaries);
-    let mut decoder = Decoder::new(&a, &pack, &GradingTarget, &table, extended.as_ref());
-    let mut scores: Vec<(CandidateScore, u32)> = p
-        .candidates
+    let added = added_side(p, given);
+    let inputs = Inputs::from_sides(p, &nuclei, added.as_ref());
+    inputs.lend_durations();
+    inputs
+        .scores()
         .iter()
-        .map(|(id, columns)| {
-            let cand = Candidate {
-                id: CandidateId(*id),
-                targets: columns.iter().map(|&tone| ToneTarget { tone }).collect(),
-            };
-            let keys = decoder.plan(&cand).unwrap();
-            let score = decoder.score(&cand, &keys).unwrap();
+        .flat_map(|score| {
+            let (_, columns) = p
+                .candidates
+                .iter()
+                .find(|(id, _)| *id == score.id.0)
+                .unwrap();
             let (pass, sum) = pass_number(p, &nuclei, added.as_ref(), columns);
             if let Some(sum) = sum {
                 assert_eq!(
@@ -150,14 +218,8 @@ pub fn decode(p: &Phrase, given: Given) -> Vec<u32> {
                     "the original disagrees with itself"
                 );
             }
-            (score, pass)
+            words(score, pass)
         })
-        .collect();
-    // as `decode` ranks: stable, highest first
-    scores.sort_by(|(x, _), (y, _)| y.llr.total_cmp(&x.llr));
-    scores
-        .iter()
-        .flat_map(|(score, pass)| words(score, *pass))
         .collect()
 }
 

@@ -1,7 +1,12 @@
 //! Small stand-ins for the crates that the original's files use and that are not here: just what those files name.
 //! The lent tables stand in for `Scorer::llr` and `log_prior`.
+//!
+//! The original is timed over them (`bench/`), so they are cheaper than what they stand in for: `llr` is one checked read
+//! of a flat table, which the original finds in a map, and `log_prior` is told a duration in seconds, so that a
+//! multiplication, an addition and a conversion remain before its one checked read, where the original has a division and a
+//! logarithm. Speech frames are copied, where the original works them out.
 
-use std::cell::RefCell;
+use std::cell::Cell;
 
 #[derive(Clone, Debug, PartialEq)]
 pub struct TbuSpan {
@@ -101,8 +106,9 @@ pub struct Calibration {
 pub struct LanguagePack {
     pub calibration: Calibration,
     pub unvoiced: f32,
-    /// by row, then column
-    pub scores: Vec<Vec<f32>>,
+    /// by entry of the evidence table, then column
+    pub scores: Vec<f32>,
+    pub columns: usize,
     /// the record's row of each entry of the evidence table
     pub rows: Vec<u32>,
 }
@@ -184,26 +190,46 @@ pub fn extract_nucleus(
 }
 
 thread_local! {
-    /// The duration tables of the two stages, and how many stages have asked for their rate.
-    pub static DURATIONS: RefCell<(Vec<[f64; 75]>, usize)> = const { RefCell::new((Vec::new(), 0)) };
+    /// The duration tables of the two stages, the second behind the first.
+    static DURATIONS: [Cell<f64>; 150] = const { [const { Cell::new(0.0) }; 150] };
+    /// How many stages of the decoder that is being made have asked for their rate.
+    static STAGES: Cell<u32> = const { Cell::new(0) };
 }
 
-/// In place of duration.rs for the decoder: a stage's rate is the number of its table.
+/// Lends the duration tables to the decoders made from now on in this thread.
+pub fn lend_durations(tables: &[[f64; 75]; 2]) {
+    DURATIONS.with(|d| {
+        for (cell, &value) in d.iter().zip(tables.iter().flatten()) {
+            cell.set(value);
+        }
+    });
+}
+
+/// To be called before a decoder is made: its first stage takes the first table.
+pub fn begin_decoder() {
+    STAGES.set(0);
+}
+
+/// In place of duration.rs for the decoder: a stage's rate says where its table stands.
 pub mod duration {
-    use super::DURATIONS;
+    use super::{DURATIONS, STAGES};
 
     pub(crate) const FRAME_S: f64 = crate::duration_original::FRAME_S;
 
+    /// What is added to a duration in frames to give its place among the tables: the first entry is that of 6 frames, and a
+    /// half is for rounding.
     pub(crate) fn rate_s(_: &[u32], _: f64) -> f64 {
-        DURATIONS.with(|d| {
-            d.borrow_mut().1 += 1;
-            (d.borrow().1 - 1) as f64
-        })
+        let stage = STAGES.get();
+        STAGES.set(stage + 1);
+        f64::from(75 * stage) - 6.0 + 0.5
     }
 
+    #[inline(always)]
     pub(crate) fn log_prior(d_s: f64, r_s: f64, _: f64) -> f64 {
-        let frames = (d_s / FRAME_S).round() as usize;
-        DURATIONS.with(|d| d.borrow().0[r_s as usize][frames - 6])
+        let place = d_s * (1.0 / FRAME_S) + r_s;
+        // SAFETY: units have 6 to 80 frames, so this is a number from 0.4 to 149.6.
+        let place = unsafe { place.to_int_unchecked::<i32>() };
+        DURATIONS.with(|d| d[place as usize].get())
     }
 }
 
@@ -251,7 +277,7 @@ pub mod cache {
         }
 
         pub(crate) fn llr(&mut self, n: usize, key: TargetKey) -> Result<f32, AssessError> {
-            Ok(self.pack.scores[self.pack.rows[n] as usize][usize::from(key.0)])
+            Ok(self.pack.scores[n * self.pack.columns + usize::from(key.0)])
         }
 
         pub(crate) fn fit(

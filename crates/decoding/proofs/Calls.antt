@@ -5,7 +5,7 @@ use mathlib.Core.List.{List}
 use mathlib.Core.Option.{Option, none, some, Option·some-ne-none}
 use mathlib.Core.Path.{_≡_, refl, sym, subst, _∙_}
 use borrow.Author.Tests.{ltb-false}
-use lib.Dec.{T, ltb}
+use lib.Dec.{ltb}
 use lib.ListN.{length}
 use Rattle.record.specs.Edition.{edition1}
 use Rattle.record.specs.Layout.{layoutOf}
@@ -17,13 +17,9 @@ use Rattle.record.specs.declared.layout.Layout.{Layout}
 use Rattle.record.specs.declared.refusal.Refusal.{Refusal}
 use Rattle.record.specs.declared.refusal.Refusal.the-variants.{Desk}
 use Rattle.record.specs.declared.refusal.Checked.the-variants.{Refused, Accepted}
+use Rattle.record.proofs.Tests.{or-left, or-right}
 use Rattle.record.proofs.Below.{length-listed}
 use Rattle.record.proofs.Answers.{given, accepts, refused-first, desk-last}
-
-neither : (a b c : Bool) → (a || b || c) ≡ false → (a ≡ false) × (b ≡ false) × (c ≡ false)
-neither true b c e = absurd (subst T e tt)
-neither false true c e = absurd (subst T e tt)
-neither false false c e = (refl, refl, e)
 
 -- M by the layout is M by the phrase
 pub candidates-counted : (bytes : List ℕ) → length (phraseOf bytes .candidates) ≡ layoutOf bytes .candidates .count
@@ -61,11 +57,15 @@ module _ (bytes : List ℕ) (best back out : ℕ) where
   accepted-call at e =
       let h = accepts (refusalWith bytes best back out) (layoutOf bytes) at e in
       let count = layoutOf bytes .candidates .count in
-      let long = neither (ltb best (edition1 .«work_cells»)) (ltb back (edition1 .«work_cells»)) (ltb out (count * edition1 .«entry_words»)) (long-enough (h .0)) in
+      let few-values = ltb best (edition1 .«work_cells») in
+      let few-marks = ltb back (edition1 .«work_cells») in
+      let few-words = ltb out (count * edition1 .«entry_words») in
+      let long = long-enough (h .0) in
+      let cells = or-left (few-values || few-marks) few-words long in
       record {
         none-given = h .0;
         laid = record { accepted = own-rules (h .0); layout = h .1 };
-        values = ltb-false best (edition1 .«work_cells») (long .0);
-        marks = ltb-false back (edition1 .«work_cells») (long .1);
-        words = subst (λ (m : ℕ). m * edition1 .«entry_words» ≤ out) (sym (candidates-counted bytes)) (ltb-false out (count * edition1 .«entry_words») (long .2));
+        values = ltb-false best (edition1 .«work_cells») (or-left few-values few-marks cells);
+        marks = ltb-false back (edition1 .«work_cells») (or-right few-values few-marks cells);
+        words = subst (λ (m : ℕ). m * edition1 .«entry_words» ≤ out) (sym (candidates-counted bytes)) (ltb-false out (count * edition1 .«entry_words») (or-right (few-values || few-marks) few-words long));
       }

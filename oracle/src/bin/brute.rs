@@ -1,21 +1,16 @@
 //! brute COUNT SEED: the original against demand 3 on that many tiny phrases, with every admitted path written out.
 //! Prints how many candidates were compared and how many differ; the exit status is 0 only for none.
 
+use oracle::arguments::count_and_seed;
 use oracle::brute;
 use oracle::generate::{phrase, Kind};
-use oracle::random::Random;
 use oracle::reference::{decode, Given};
 use std::process::exit;
 
 fn main() {
-    let args: Vec<String> = std::env::args().collect();
-    let [_, count, seed] = &args[..] else {
-        eprintln!("brute COUNT SEED");
-        exit(2);
-    };
-    let mut r = Random(seed.parse().expect("SEED is a number"));
+    let (count, mut r) = count_and_seed("brute");
     let (mut compared, mut missed, mut differ) = (0, 0, 0);
-    for _ in 0..count.parse::<usize>().expect("COUNT is a number") {
+    for _ in 0..count {
         let p = phrase(&mut r, Kind::Tiny);
         let words = decode(&p, Given::WithinMask);
         for (id, columns) in &p.candidates {
