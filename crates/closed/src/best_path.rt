@@ -41,9 +41,10 @@ pub fn fill_rows<'a>(
 {
     let unvoiced = costs.unvoiced as f64;
     fill_first(best, back, &figures[..64], &figures[64..128], n);
+    let mut score = [0.0f64; 64];
     for s in 0..k {
         let unit = column(bytes, at, candidate, s);
-        let score = row_scores(bytes, at, &words[192..256], n, unit);
+        row_scores(bytes, at, &words[192..256], n, unit, &mut score);
         fill_next(
             best,
             back,

@@ -1,7 +1,7 @@
 -- `closed::best_path::fill_rows` meets its contract: proofs/AllRows.antt has the rows. Assumes nothing.
 use mathlib.Core.Bool.{not}
 use mathlib.Core.List.{List, []}
-use mathlib.Core.Path.{_≡_, sym, ap, subst, subst⁻¹, _∙_}
+use mathlib.Core.Path.{_≡_, refl, sym, ap, subst, subst⁻¹, _∙_}
 use Prim.Native.Nat.{ℕ, _+_, _-_, _<_}
 use native.Mathlib.Nat.{le-refl}
 use native.Mathlib.Omega.{arith}
@@ -30,11 +30,11 @@ use Rattle.closed.proofs.best_path.fill_rows.Statement.{statement}
 use Rattle.closed.proofs.best_path.fill_rows.Tie as tie
 
 abbrev Inv-loop : tie.InvT-loop
-Inv-loop best₀ back₀ bytes at words figures n strictness candidate k unvoiced s₀ best back s =
-    RowsTo (phraseOf bytes) (columnsOf bytes candidate) strictness (tablesIn n words figures) best₀ back₀ best back s
+Inv-loop best₀ back₀ bytes at words figures n strictness candidate k unvoiced score₀ s₀ best back score s =
+    (length score ≡ most) × RowsTo (phraseOf bytes) (columnsOf bytes candidate) strictness (tablesIn n words figures) best₀ back₀ best back s
 
 abbrev μ-loop : tie.MeasureT-loop
-μ-loop best₀ back₀ bytes at words figures n strictness candidate k unvoiced s₀ best back s = k - s
+μ-loop best₀ back₀ bytes at words figures n strictness candidate k unvoiced score₀ s₀ best back score s = k - s
 
 abbrev tables : tie.Start Inv-loop μ-loop → StageTables
 tables c = tablesIn (c .args .n) (c .args .words .now) (c .args .figures .now)
@@ -81,7 +81,7 @@ loop-holds : tie.Need-loop-holds Inv-loop μ-loop
 loop-holds c =
     let start = c .before .before .before .before .before .before .before .before .before .before .before .before .before .before .before in
     let some = start .pre .1 .1 .0 .1 in
-    rows-begin (phrase start) (columns start) (start .args .strictness) (tables start) (start .pre .1 .1 .1) (c .before .before .before .before .fill-first .ensures) (some .0) (some .1)
+    (refl, rows-begin (phrase start) (columns start) (start .args .strictness) (tables start) (start .pre .1 .1 .1) (c .before .before .before .before .fill-first .ensures) (some .0) (some .1))
 
 column-requires : tie.Need-column-requires Inv-loop μ-loop
 column-requires c κs =
@@ -98,22 +98,25 @@ part-row-scores-start c = search needs
 part-row-scores-end : tie.Need-part-row-scores-end Inv-loop μ-loop
 part-row-scores-end c = omega (arith, c .before .before .before .before .before .before .before .before .before .before .before .before .before .before .before .before .before .before .pre .1 .0 .worded)
 
+slice-aggregate-row-scores : tie.Need-slice-aggregate-row-scores Inv-loop μ-loop
+slice-aggregate-row-scores c = sym (c .before .before .before .before .loop .inv .0)
+
 row-scores-requires : tie.Need-row-scores-requires Inv-loop μ-loop
 row-scores-requires c κs =
-    let start = c .before .before .before .before .before .before .before .before .before .before .before .before .before .before .before .before .before .before .before in
+    let start = c .before .before .before .before .before .before .before .before .before .before .before .before .before .before .before .before .before .before .before .before in
     let asked = start .pre .0 .0 in
     let readable = start .pre .1 .1 .0 .0 in
-    let turn : c .before .before .before .loop .s < length (columns start) = omega (arith, c .before .before .loop-test .taken, start .pre .0 .1) in (
+    let turn : c .before .before .before .before .loop .s < length (columns start) = omega (arith, c .before .before .before .loop-test .taken, start .pre .0 .1) in (
       (
         asked .laid,
-        subst⁻¹ (λ (x : ℕ). x < start .args .at .scores .count) (c .before .column .ensures)
-            (fit (asked .laid) .candidates (start .args .candidate) (record { id = 0; columns = [] }) (asked .listed) .below (c .before .before .before .loop .s) turn),
+        subst⁻¹ (λ (x : ℕ). x < start .args .at .scores .count) (c .before .before .column .ensures)
+            (fit (asked .laid) .candidates (start .args .candidate) (record { id = 0; columns = [] }) (asked .listed) .below (c .before .before .before .before .loop .s) turn),
       ),
-      (readable .few, omega (arith, readable .few, arrays start .row), readable .rows),
+      (omega (arith, readable .few, c .before .before .before .before .loop .inv .0), omega (arith, readable .few, arrays start .row), readable .rows),
     )
 
 slice-aggregate-fill-next : tie.Need-slice-aggregate-fill-next Inv-loop μ-loop
-slice-aggregate-fill-next c = sym (arrays (c .before .before .before .before .before .before .before .before .before .before .before .before .before .before .before .before .before .before .before .before .before .before .before) .bounds)
+slice-aggregate-fill-next c = sym (arrays (c .before .before .before .before .before .before .before .before .before .before .before .before .before .before .before .before .before .before .before .before .before .before .before .before .before) .bounds)
 
 sub-fill-next : tie.Need-sub-fill-next Inv-loop μ-loop
 sub-fill-next c = search needs
@@ -122,7 +125,7 @@ part-fill-next-start : tie.Need-part-fill-next-start Inv-loop μ-loop
 part-fill-next-start c = search needs
 
 part-fill-next-end : tie.Need-part-fill-next-end Inv-loop μ-loop
-part-fill-next-end c = omega (arith, c .before .before .before .before .before .before .before .before .before .before .before .before .before .before .before .before .before .before .before .before .before .before .before .pre .1 .0 .worded)
+part-fill-next-end c = omega (arith, c .before .before .before .before .before .before .before .before .before .before .before .before .before .before .before .before .before .before .before .before .before .before .before .before .before .pre .1 .0 .worded)
 
 sub-fill-next-2 : tie.Need-sub-fill-next-2 Inv-loop μ-loop
 sub-fill-next-2 c = search needs
@@ -131,7 +134,7 @@ part-fill-next-start-2 : tie.Need-part-fill-next-start-2 Inv-loop μ-loop
 part-fill-next-start-2 c = search needs
 
 part-fill-next-end-2 : tie.Need-part-fill-next-end-2 Inv-loop μ-loop
-part-fill-next-end-2 c = omega (arith, c .before .before .before .before .before .before .before .before .before .before .before .before .before .before .before .before .before .before .before .before .before .before .before .before .pre .1 .0 .worded)
+part-fill-next-end-2 c = omega (arith, c .before .before .before .before .before .before .before .before .before .before .before .before .before .before .before .before .before .before .before .before .before .before .before .before .before .before .pre .1 .0 .worded)
 
 sub-fill-next-3 : tie.Need-sub-fill-next-3 Inv-loop μ-loop
 sub-fill-next-3 c = search needs
@@ -140,10 +143,10 @@ part-fill-next-start-3 : tie.Need-part-fill-next-start-3 Inv-loop μ-loop
 part-fill-next-start-3 c = search needs
 
 part-fill-next-end-3 : tie.Need-part-fill-next-end-3 Inv-loop μ-loop
-part-fill-next-end-3 c = omega (arith, c .before .before .before .before .before .before .before .before .before .before .before .before .before .before .before .before .before .before .before .before .before .before .before .before .before .pre .1 .0 .figured)
+part-fill-next-end-3 c = omega (arith, c .before .before .before .before .before .before .before .before .before .before .before .before .before .before .before .before .before .before .before .before .before .before .before .before .before .before .before .pre .1 .0 .figured)
 
 slice-aggregate-fill-next-2 : tie.Need-slice-aggregate-fill-next-2 Inv-loop μ-loop
-slice-aggregate-fill-next-2 c = search needs
+slice-aggregate-fill-next-2 c = sym (c .before .before .before .before .before .before .before .before .row-scores .kept .1 .1 .1 .1 .1 .0 ∙ c .before .before .before .before .before .before .before .before .before .before .before .before .before .loop .inv .0)
 
 sub-fill-next-4 : tie.Need-sub-fill-next-4 Inv-loop μ-loop
 sub-fill-next-4 c = search needs
@@ -152,22 +155,22 @@ part-fill-next-start-4 : tie.Need-part-fill-next-start-4 Inv-loop μ-loop
 part-fill-next-start-4 c = search needs
 
 part-fill-next-end-4 : tie.Need-part-fill-next-end-4 Inv-loop μ-loop
-part-fill-next-end-4 c = omega (arith, c .before .before .before .before .before .before .before .before .before .before .before .before .before .before .before .before .before .before .before .before .before .before .before .before .before .before .before .pre .1 .0 .figured)
+part-fill-next-end-4 c = omega (arith, c .before .before .before .before .before .before .before .before .before .before .before .before .before .before .before .before .before .before .before .before .before .before .before .before .before .before .before .before .before .pre .1 .0 .figured)
 
 fill-next-requires : tie.Need-fill-next-requires Inv-loop μ-loop
 fill-next-requires c κs =
-    let start = c .before .before .before .before .before .before .before .before .before .before .before .before .before .before .before .before .before .before .before .before .before .before .before .before .before .before .before .before in
+    let start = c .before .before .before .before .before .before .before .before .before .before .before .before .before .before .before .before .before .before .before .before .before .before .before .before .before .before .before .before .before .before in
     let t = tables start in
     let readable = start .pre .1 .1 .0 .0 in
     let some = start .pre .1 .1 .0 .1 in
     let unused = start .pre .1 .1 .1 in
-    let at = c .before .before .before .before .before .before .before .before .before .before .before .before .loop in
-    let turn : at .s < length (columns start) = omega (arith, c .before .before .before .before .before .before .before .before .before .before .before .loop-test .taken, start .pre .0 .1) in
-    let fits = next-fits (phrase start) (columns start) (start .args .strictness) t (at .inv) turn in
-    let began = c .before .before .before .before .before .before .before .before .before .before .before .before .before .before .before .before .before .fill-first .kept in (
+    let at = c .before .before .before .before .before .before .before .before .before .before .before .before .before .before .loop in
+    let turn : at .s < length (columns start) = omega (arith, c .before .before .before .before .before .before .before .before .before .before .before .before .before .loop-test .taken, start .pre .0 .1) in
+    let fits = next-fits (phrase start) (columns start) (start .args .strictness) t (at .inv .1) turn in
+    let began = c .before .before .before .before .before .before .before .before .before .before .before .before .before .before .before .before .before .before .before .fill-first .kept in (
       (
-        omega (arith, fits, unused .values, at .inv .valued, began .0),
-        omega (arith, fits, unused .marks, at .inv .marked, began .1 .0),
+        omega (arith, fits, unused .values, at .inv .1 .valued, began .0),
+        omega (arith, fits, unused .marks, at .inv .1 .marked, began .1 .0),
         omega (arith, readable .few),
         omega (arith, readable .few, arrays start .gap),
       ),
@@ -178,51 +181,53 @@ fill-next-requires c κs =
           bounds-long = omega (arith, readable .few, arrays start .bounds);
           first-long = omega (arith, readable .few, arrays start .first);
           second-long = omega (arith, readable .few, arrays start .second);
-          score-long = omega (arith, readable .few, c .before .before .before .before .before .before .before .before .row-scores .ensures .sized);
+          score-long = omega (arith, readable .few, c .before .before .before .before .before .before .before .before .before .row-scores .kept .1 .1 .1 .1 .1 .0, c .before .before .before .before .before .before .before .before .before .before .before .before .before .before .loop .inv .0);
           duration-long = omega (arith, arrays start .duration);
         },
         (
-          (rows (some .0) (marks (some .0)) (at .s), at .inv .filled (some .0) (some .1) (at .s) (le-refl (at .s))),
-          λ j h. at .inv .unused (rowAt (t .size) (at .s) (t .size + j)) (omega arith) (omega (arith, fits)),
+          (rows (some .0) (marks (some .0)) (at .s), at .inv .1 .filled (some .0) (some .1) (at .s) (le-refl (at .s))),
+          λ j h. at .inv .1 .unused (rowAt (t .size) (at .s) (t .size + j)) (omega arith) (omega (arith, fits)),
         ),
       ),
     )
 
 add-s : tie.Need-add-s Inv-loop μ-loop
-add-s c = omega (arith, c .before .before .before .before .before .before .before .before .before .before .before .before .before .before .before .before .loop-test .taken, c .before .before .before .before .before .before .before .before .before .before .before .before .before .before .before .before .before .before .before .before .before .before .before .before .before .before .before .before .before .before .before .before .before .fits .k)
+add-s c = omega (arith, c .before .before .before .before .before .before .before .before .before .before .before .before .before .before .before .before .before .before .loop-test .taken, c .before .before .before .before .before .before .before .before .before .before .before .before .before .before .before .before .before .before .before .before .before .before .before .before .before .before .before .before .before .before .before .before .before .before .before .fits .k)
 
 loop-less : tie.Need-loop-less Inv-loop μ-loop
-loop-less c = omega (arith, c .before .before .before .before .before .before .before .before .before .before .before .before .before .before .before .before .loop-test .taken)
+loop-less c = omega (arith, c .before .before .before .before .before .before .before .before .before .before .before .before .before .before .before .before .before .before .loop-test .taken)
 
 loop-again : tie.Need-loop-again Inv-loop μ-loop
 loop-again c =
-    let start = c .before .before .before .before .before .before .before .before .before .before .before .before .before .before .before .before .before .before .before .before .before .before .before .before .before .before .before .before .before .before .before .before .before in
+    let start = c .before .before .before .before .before .before .before .before .before .before .before .before .before .before .before .before .before .before .before .before .before .before .before .before .before .before .before .before .before .before .before .before .before .before .before in
     let t = tables start in
     let some = start .pre .1 .1 .0 .1 in
-    let at = c .before .before .before .before .before .before .before .before .before .before .before .before .before .before .before .before .before .loop in
-    let turn : at .s < length (columns start) = omega (arith, c .before .before .before .before .before .before .before .before .before .before .before .before .before .before .before .before .loop-test .taken, start .pre .0 .1) in
-    let scored = c .before .before .before .before .before .before .before .before .before .before .before .before .before .row-scores in
-    let next = c .before .before .before .before .fill-next in
-    rows-more (phrase start) (columns start) (start .args .strictness) t (at .inv) turn (next .kept .0) (next .kept .1 .0) (scored .result)
-    (λ i h. scored .ensures .given i h ∙ ap (phrase start .score (getD (t .row) i 0)) (c .before .before .before .before .before .before .before .before .before .before .before .before .before .before .before .column .ensures))
-    (subst (λ (x : Costs). FilledNext (unitsWith t (scored .result) (x .unvoiced) (start .args .strictness)) (t .gap) (at .best) (at .back) (next .last .0) (next .last .1 .0) (t .size) (at .s))
-    (start .pre .0 .0 .figures) (next .ensures)) (some .0) (some .1)
+    let at = c .before .before .before .before .before .before .before .before .before .before .before .before .before .before .before .before .before .before .before .loop in
+    let turn : at .s < length (columns start) = omega (arith, c .before .before .before .before .before .before .before .before .before .before .before .before .before .before .before .before .before .before .loop-test .taken, start .pre .0 .1) in
+    let scored = c .before .before .before .before .before .before .before .before .before .before .before .before .before .before .row-scores in
+    let next = c .before .before .before .before .fill-next in (
+      scored .kept .1 .1 .1 .1 .1 .0 ∙ at .inv .0,
+      rows-more (phrase start) (columns start) (start .args .strictness) t (at .inv .1) turn (next .kept .0) (next .kept .1 .0) (scored .last .1 .1 .1 .1 .1 .0)
+          (λ i h. scored .ensures .given i h ∙ ap (phrase start .score (getD (t .row) i 0)) (c .before .before .before .before .before .before .before .before .before .before .before .before .before .before .before .before .before .column .ensures))
+          (subst (λ (x : Costs). FilledNext (unitsWith t (scored .last .1 .1 .1 .1 .1 .0) (x .unvoiced) (start .args .strictness)) (t .gap) (at .best) (at .back) (next .last .0) (next .last .1 .0) (t .size) (at .s))
+          (start .pre .0 .0 .figures) (next .ensures)) (some .0) (some .1),
+    )
 
 same-length : tie.Need-same-length Inv-loop μ-loop
-same-length c = c .before .loop .inv .valued ∙ c .before .before .before .before .before .before .fill-first .kept .0
+same-length c = c .before .loop .inv .1 .valued ∙ c .before .before .before .before .before .before .fill-first .kept .0
 
 same-length-2 : tie.Need-same-length-2 Inv-loop μ-loop
-same-length-2 c = c .before .loop .inv .marked ∙ c .before .before .before .before .before .before .fill-first .kept .1 .0
+same-length-2 c = c .before .loop .inv .1 .marked ∙ c .before .before .before .before .before .before .fill-first .kept .1 .0
 
 returns : tie.Need-returns Inv-loop μ-loop
 returns c =
     let start = c .before .before .before .before .before .before .before .before .before .before .before .before .before .before .before .before .before in
     let some = start .pre .1 .1 .0 .1 in
     let inv = c .before .loop .inv in
-    let all : c .before .loop .s ≡ length (columns start) = omega (arith, c .loop-test .left, start .pre .0 .1, inv .bounded) in
+    let all : c .before .loop .s ≡ length (columns start) = omega (arith, c .loop-test .left, start .pre .0 .1, inv .1 .bounded) in
     record {
-      rows = λ q agrees. subst (AllRows q (c .before .loop .best) (c .before .loop .back) (start .args .n)) all (inv .filled q agrees);
-      rest = λ at h. same-trans (first-rest (phrase start) (columns start) (start .args .strictness) (tables start) (c .before .before .before .before .before .before .fill-first .ensures) (some .0) (some .1) at h) (inv .rest at h);
+      rows = λ q agrees. subst (AllRows q (c .before .loop .best) (c .before .loop .back) (start .args .n)) all (inv .1 .filled q agrees);
+      rest = λ at h. same-trans (first-rest (phrase start) (columns start) (start .args .strictness) (tables start) (c .before .before .before .before .before .before .fill-first .ensures) (some .0) (some .1) at h) (inv .1 .rest at h);
     }
 
 pub fill-rows-spec : {M : Type 1} → statement M
@@ -242,6 +247,7 @@ fill-rows-spec =
     sub-row-scores
     part-row-scores-start
     part-row-scores-end
+    slice-aggregate-row-scores
     row-scores-requires
     slice-aggregate-fill-next
     sub-fill-next
