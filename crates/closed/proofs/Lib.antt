@@ -5,6 +5,7 @@ pub mod Bridge
 pub mod Chosen
 pub mod AllRows
 pub mod Restored
+pub mod Lists
 pub mod Staged
 pub mod Answers
 pub mod InOrder

@@ -1,7 +1,7 @@
 -- What an accepted record gives every pass over the tables of its stage. Assumes nothing.
 use mathlib.Core.Bool.{true}
 use mathlib.Core.List.{List, [], _∷_}
-use mathlib.Core.Path.{_≡_, refl, sym}
+use mathlib.Core.Path.{_≡_, refl, sym, ap, _∙_}
 use Prim.Native.Nat.{ℕ, suc, _+_, _≤_, _<_}
 use native.Mathlib.Nat.{mul-le-mul-right}
 use native.Mathlib.Omega.{arith}
@@ -17,7 +17,7 @@ use Rattle.paths.specs.StageProblem.{boundary}
 use Rattle.paths.specs.Passes.{passProblem, hasNucleus, nonEmpty}
 use Rattle.paths.proofs.Anchors.{keptIn-le}
 use Rattle.record.specs.declared.layout.Layout.{Layout}
-use Rattle.record.specs.Accepted.{StageFit}
+use Rattle.record.specs.Accepted.{StageFit, Laid}
 use Rattle.record.specs.Edition.{edition1}
 use Rattle.record.specs.Layout.{layoutOf}
 use Rattle.record.specs.Meaning.{phraseOf, phraseAt}
@@ -59,6 +59,17 @@ nuclei-first bytes = refl
 added-next : (bytes : List ℕ) → phraseOf bytes .added .firstRow ≡ length (phraseOf bytes .nuclei .anchors)
 unfolding phraseOf phraseAt
 added-next bytes = sym (length-listed (frameAt bytes (layoutOf bytes .nuclei)) (layoutOf bytes .nuclei .count))
+
+-- The layout has the number of boundaries of each stage.
+pub boundary-count : {bytes : List ℕ} {at : Layout} → Laid bytes at → length (phraseOf bytes .nuclei .boundaries) ≡ at .boundaries .count
+unfolding phraseOf phraseAt
+boundary-count {bytes} laid =
+    length-listed (frameAt bytes (layoutOf bytes .boundaries)) (layoutOf bytes .boundaries .count) ∙ ap (λ (l : Layout). l .boundaries .count) (sym (laid .layout))
+
+pub added-count : {bytes : List ℕ} {at : Layout} → Laid bytes at → length (phraseOf bytes .added .boundaries) ≡ at .added .count
+unfolding phraseOf phraseAt
+added-count {bytes} laid =
+    length-listed (frameAt bytes (layoutOf bytes .added)) (layoutOf bytes .added .count) ∙ ap (λ (l : Layout). l .added .count) (sym (laid .layout))
 
 module _ {bytes : List ℕ} {at : Layout} {costs : Costs} {candidate : ℕ} (asked : Candidate bytes at costs candidate) where
   stage-fits : (pass : Pass) → Fits (passStage (phraseOf bytes) pass)

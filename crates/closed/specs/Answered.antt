@@ -3,6 +3,7 @@ use Prim.Native.Nat.{ℕ}
 use mathlib.Core.Bool.{Bool, true, false}
 use mathlib.Core.List.{List, []}
 use mathlib.Core.Path.{_≡_}
+use lib.Ieee.{Float}
 use lib.ListN.{length}
 use Rattle.phrase.specs.Phrase.{Phrase, Stage}
 use Rattle.paths.specs.declared.passes.Strictness.{Strictness}
@@ -14,9 +15,9 @@ use Rattle.paths.specs.Marks.{unitsOf}
 use Rattle.paths.specs.Passes.{passNumber, passProblem, speaks, hasNucleus, nonEmpty}
 use Rattle.paths.specs.Demand.{found, none, unvoiced, Answer as Demanded}
 use Rattle.paths.specs.Search.{orElse}
-use Rattle.stages.specs.declared.tables.StageTables.{StageTables}
-use Rattle.stages.specs.Tables.{Tabled}
+use Rattle.stages.specs.Tables.{Tabled, tablesIn}
 use Rattle.rows.specs.Traced.{UnitsAre}
+use Rattle.closed.specs.Asked.{Lent}
 use Rattle.closed.specs.declared.search.Answer.{Answer}
 use Rattle.closed.specs.declared.search.Answer.the-variants.{Found, None, Unvoiced}
 use Rattle.closed.specs.declared.search.Searched.{Searched}
@@ -64,7 +65,9 @@ pub record RunsOf (phrase : Phrase) (runs : Runs) : Type 0 where
   pub voiced : runs .voiced ≡ hasNucleus phrase
   pub added : runs .added ≡ nonEmpty (phrase .added .anchors)
 
--- The tables of the nuclei's stage and, where there is one, of the added stage.
-pub record BothTabled (phrase : Phrase) (first second : StageTables) : Type 0 where
-  pub nuclei : Tabled phrase (phrase .nuclei) first
-  pub added : nonEmpty (phrase .added .anchors) ≡ true → Tabled phrase (phrase .added) second
+-- The tables of the nuclei's stage and, where there is one, of the added stage, in lent lists.
+pub record BothLent (phrase : Phrase) (words : List ℕ) (figures : List Float) (addedWords : List ℕ) (addedFigures : List Float) : Type 0 where
+  pub whole : Lent words figures
+  pub addedWhole : Lent addedWords addedFigures
+  pub nuclei : Tabled phrase (phrase .nuclei) (tablesIn (length (phrase .nuclei .boundaries)) words figures)
+  pub added : nonEmpty (phrase .added .anchors) ≡ true → Tabled phrase (phrase .added) (tablesIn (length (phrase .added .boundaries)) addedWords addedFigures)

@@ -34,6 +34,11 @@ pub record Unused (best : List Float) (back : List ℕ) (cells : ℕ) : Type 0 w
   pub marks : cells ≤ length back
   pub zero : Row best back first cells unfilled
 
+-- the lists of a stage's tables are whole
+pub record Lent (words : List ℕ) (figures : List Float) : Type 0 where
+  pub worded : length words ≡ 384
+  pub figured : length figures ≡ 267
+
 -- the tables are those of some problem
 abbrev pub SomeProblem : Phrase → List ℕ → Strictness → StageTables → Type 0
 SomeProblem phrase columns strictness t = (q : Problem) × Agrees phrase columns strictness t q

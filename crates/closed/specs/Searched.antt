@@ -2,7 +2,7 @@
 use Prim.Native.Nat.{ℕ, _+_, _≤_, _<_}
 use mathlib.Core.List.{List}
 use mathlib.Core.Path.{_≡_}
-use lib.Ieee.{Float, binary64, nan, ofBits}
+use lib.Ieee.{Float, nan}
 use lib.ListN.{length, getD}
 use Rattle.phrase.specs.Phrase.{Phrase}
 use Rattle.paths.specs.declared.passes.Strictness.{Strictness}
@@ -25,11 +25,10 @@ scoreRows phrase = length (phrase .nuclei .anchors) + length (phrase .added .anc
 abbrev pub RowsBelow : List ℕ → ℕ → ℕ → Type 0
 RowsBelow rows n most = (i : ℕ) → i < n → getD rows i 0 < most
 
--- an array of them, 0 past the last
-pub record Scored (phrase : Phrase) (rows : List ℕ) (n column : ℕ) (scores : List Float) : Type 0 where
-  pub sized : length scores ≡ most
+-- those of the first n boundaries, written over a list
+pub record Scored (phrase : Phrase) (rows : List ℕ) (n column : ℕ) (before scores : List Float) : Type 0 where
   pub given : ScoresOf phrase rows n column scores
-  pub rest : (i : ℕ) → n ≤ i → i < most → getD scores i nan ≡ ofBits binary64 0
+  pub rest : (i : ℕ) → n ≤ i → getD scores i nan ≡ getD before i nan
 
 -- the tables of one unit, with its scores
 abbrev pub unitsWith : StageTables → List Float → Float → Strictness → UnitTables

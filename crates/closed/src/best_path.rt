@@ -4,7 +4,8 @@ ghost use mathlib.Core.Path.{_≡_};
 ghost use lib.ListN.{length};
 ghost use Rattle.paths.specs.Problem.{Problem};
 ghost use Rattle.record.specs.Meaning.{phraseOf};
-ghost use Rattle.closed.specs.Asked.{Candidate, columnsOf, cellsFor, Unused, SomeProblem, RowsFilled};
+ghost use Rattle.stages.specs.Tables.{tablesIn};
+ghost use Rattle.closed.specs.Asked.{Candidate, columnsOf, cellsFor, Unused, Lent, SomeProblem, RowsFilled};
 ghost use Rattle.closed.specs.Reported.{Reports};
 ghost use Rattle.closed.specs.Searched.{Agrees, Readable, scoreRows};
 use crate::fill::fill_first;
@@ -17,40 +18,42 @@ use phrase::costs::Costs;
 use reading::read::column;
 use reading::read::units;
 use record::layout::Layout;
-use stages::tables::StageTables;
 
-// The rows of no units and of every count up to the candidate's k.
-pub fn fill_rows(
+// The rows of no units and of every count up to the candidate's k, over the lent tables of a stage.
+pub fn fill_rows<'a>(
     best: &mut [f64],
     back: &mut [u32],
     bytes: &[u8],
     at: Layout,
     costs: Costs,
-    t: StageTables,
+    words: &'a [u32],
+    figures: &'a [f64],
+    n: usize,
     strictness: Strictness,
     candidate: usize,
     k: usize,
 )
     requires { ⌜ Candidate (now bytes) at costs candidate × (k ≡ length (columnsOf (now bytes) candidate)) ⌝ }
-    requires { ⌜ Readable t (scoreRows (phraseOf (now bytes))) × SomeProblem (phraseOf (now bytes)) (columnsOf (now bytes) candidate) strictness t ⌝ }
-    requires { ⌜ Unused (now best) (now back) (cellsFor t (columnsOf (now bytes) candidate)) ⌝ }
-    ensures { λ _. ⌜ RowsFilled (phraseOf (now (bytes .entry))) (columnsOf (now (bytes .entry)) candidate) strictness t (now (best .entry)) (now (back .entry)) (now (best .exit)) (now (back .exit)) ⌝ }
+    requires { ⌜ Lent (now words) (now figures) ⌝ }
+    requires { ⌜ Readable (tablesIn n (now words) (now figures)) (scoreRows (phraseOf (now bytes))) × SomeProblem (phraseOf (now bytes)) (columnsOf (now bytes) candidate) strictness (tablesIn n (now words) (now figures)) ⌝ }
+    requires { ⌜ Unused (now best) (now back) (cellsFor (tablesIn n (now words) (now figures)) (columnsOf (now bytes) candidate)) ⌝ }
+    ensures { λ _. ⌜ RowsFilled (phraseOf (now (bytes .entry))) (columnsOf (now (bytes .entry)) candidate) strictness (tablesIn n (now (words .entry)) (now (figures .entry))) (now (best .entry)) (now (back .entry)) (now (best .exit)) (now (back .exit)) ⌝ }
 {
-    let n = t.size;
     let unvoiced = costs.unvoiced as f64;
-    fill_first(best, back, &t.start, &t.gap, n);
+    fill_first(best, back, &figures[..64], &figures[64..128], n);
+    let mut score = [0.0f64; 64];
     for s in 0..k {
         let unit = column(bytes, at, candidate, s);
-        let score = row_scores(bytes, at, &t.row, n, unit);
+        row_scores(bytes, at, &words[192..256], n, unit, &mut score);
         fill_next(
             best,
             back,
-            &t.bounds,
-            &t.first,
-            &t.second,
-            &t.gap,
+            &words[..64],
+            &words[64..128],
+            &words[128..192],
+            &figures[64..128],
             &score,
-            &t.duration,
+            &figures[192..267],
             unvoiced,
             strictness,
             n,
@@ -60,24 +63,38 @@ pub fn fill_rows(
 }
 
 // The path chosen, "the one that the cell rule keeps" (document 01), or that there is none. The work areas end as they came.
-pub fn best_path(
+pub fn best_path<'a>(
     best: &mut [f64],
     back: &mut [u32],
     bytes: &[u8],
     at: Layout,
     costs: Costs,
-    t: StageTables,
+    words: &'a [u32],
+    figures: &'a [f64],
+    n: usize,
     strictness: Strictness,
     candidate: usize,
 ) -> Path
     requires { ⌜ Candidate (now bytes) at costs candidate ⌝ }
-    requires { ⌜ Readable t (scoreRows (phraseOf (now bytes))) × SomeProblem (phraseOf (now bytes)) (columnsOf (now bytes) candidate) strictness t ⌝ }
-    requires { ⌜ Unused (now best) (now back) (cellsFor t (columnsOf (now bytes) candidate)) ⌝ }
-    ensures { λ r. ⌜ ((q : Problem) → Agrees (phraseOf (now (bytes .entry))) (columnsOf (now (bytes .entry)) candidate) strictness t q → Reports q (length (columnsOf (now (bytes .entry)) candidate)) r) ⌝ }
+    requires { ⌜ Lent (now words) (now figures) ⌝ }
+    requires { ⌜ Readable (tablesIn n (now words) (now figures)) (scoreRows (phraseOf (now bytes))) × SomeProblem (phraseOf (now bytes)) (columnsOf (now bytes) candidate) strictness (tablesIn n (now words) (now figures)) ⌝ }
+    requires { ⌜ Unused (now best) (now back) (cellsFor (tablesIn n (now words) (now figures)) (columnsOf (now bytes) candidate)) ⌝ }
+    ensures { λ r. ⌜ ((q : Problem) → Agrees (phraseOf (now (bytes .entry))) (columnsOf (now (bytes .entry)) candidate) strictness (tablesIn n (now (words .entry)) (now (figures .entry))) q → Reports q (length (columnsOf (now (bytes .entry)) candidate)) r) ⌝ }
     ensures { λ _. ⌜ (now (best .exit) ≡ now (best .entry)) × (now (back .exit) ≡ now (back .entry)) ⌝ }
 {
     let k = units(bytes, at, candidate);
-    fill_rows(best, back, bytes, at, costs, t, strictness, candidate, k);
-    let n = t.size;
-    finish(best, back, &t.stop, n, k)
+    fill_rows(
+        best,
+        back,
+        bytes,
+        at,
+        costs,
+        words,
+        figures,
+        n,
+        strictness,
+        candidate,
+        k,
+    );
+    finish(best, back, &figures[128..192], n, k)
 }

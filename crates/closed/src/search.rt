@@ -7,10 +7,10 @@ ghost use Rattle.paths.specs.Passes.{hasNucleus};
 ghost use Rattle.paths.specs.Search.{chosen};
 ghost use Rattle.record.specs.Edition.{edition1};
 ghost use Rattle.record.specs.Meaning.{phraseOf};
-ghost use Rattle.stages.specs.Tables.{Tabled};
+ghost use Rattle.stages.specs.Tables.{Tabled, tablesIn};
 ghost use Rattle.rows.specs.Traced.{UnitsAre};
-ghost use Rattle.closed.specs.Answered.{Says, isFound, numberOf, passStage, passStrictness, passAnswer, RunsOf, BothTabled};
-ghost use Rattle.closed.specs.Asked.{Candidate, columnsOf, Unused};
+ghost use Rattle.closed.specs.Answered.{Says, isFound, numberOf, passStage, passStrictness, passAnswer, RunsOf, BothLent};
+ghost use Rattle.closed.specs.Asked.{Candidate, columnsOf, Unused, Lent};
 use crate::best_path::best_path;
 use crate::path::Found;
 use paths::passes::Pass;
@@ -18,7 +18,6 @@ use paths::passes::Strictness;
 use phrase::costs::Costs;
 use record::layout::Layout;
 use rows::trace::Units;
-use stages::tables::StageTables;
 
 // The pass that finds a path, with its sum; or that there is none, and whether a nucleus is in the mask.
 pub enum Answer {
@@ -82,16 +81,19 @@ pub struct Task {
 }
 
 // One pass, over the tables of its stage.
-pub fn attempt(
+pub fn attempt<'a>(
     best: &mut [f64],
     back: &mut [u32],
     bytes: &[u8],
     task: Task,
-    t: StageTables,
+    words: &'a [u32],
+    figures: &'a [f64],
+    n: usize,
     pass: Pass,
 ) -> Searched
     requires { ⌜ Candidate (now bytes) (task .at) (task .costs) (task .candidate) × (hasNucleus (phraseOf (now bytes)) ≡ true) ⌝ }
-    requires { ⌜ Tabled (phraseOf (now bytes)) (passStage (phraseOf (now bytes)) pass) t ⌝ }
+    requires { ⌜ Lent (now words) (now figures) ⌝ }
+    requires { ⌜ Tabled (phraseOf (now bytes)) (passStage (phraseOf (now bytes)) pass) (tablesIn n (now words) (now figures)) ⌝ }
     requires { ⌜ Unused (now best) (now back) (edition1 .«work_cells») ⌝ }
     ensures { λ r. ⌜ Says (passAnswer (phraseOf (now (bytes .entry))) pass (columnsOf (now (bytes .entry)) (task .candidate))) r ⌝ }
     ensures { λ _. ⌜ (now (best .exit) ≡ now (best .entry)) × (now (back .exit) ≡ now (back .entry)) ⌝ }
@@ -100,7 +102,18 @@ pub fn attempt(
     let at = task.at;
     let costs = task.costs;
     let candidate = task.candidate;
-    let path = best_path(best, back, bytes, at, costs, t, strictness, candidate);
+    let path = best_path(
+        best,
+        back,
+        bytes,
+        at,
+        costs,
+        words,
+        figures,
+        n,
+        strictness,
+        candidate,
+    );
     let found = path.found;
     let units = path.units;
     match found {
@@ -128,16 +141,19 @@ pub fn no_path(answer: Answer) -> Searched
 
 // The first pass that admits a path, in document 01's order, with the path chosen there; or that there is none. The tables
 // of the added stage are read only where there is one. The work areas end as they came.
-pub fn search(
+pub fn search<'a>(
     best: &mut [f64],
     back: &mut [u32],
     bytes: &[u8],
     task: Task,
-    nuclei: StageTables,
-    added: StageTables,
+    words: &'a [u32],
+    figures: &'a [f64],
+    added_words: &'a [u32],
+    added_figures: &'a [f64],
     runs: Runs,
 ) -> Searched
-    requires { ⌜ Candidate (now bytes) (task .at) (task .costs) (task .candidate) × RunsOf (phraseOf (now bytes)) runs × BothTabled (phraseOf (now bytes)) nuclei added ⌝ }
+    requires { ⌜ Candidate (now bytes) (task .at) (task .costs) (task .candidate) × RunsOf (phraseOf (now bytes)) runs ⌝ }
+    requires { ⌜ BothLent (phraseOf (now bytes)) (now words) (now figures) (now «added_words») (now «added_figures») ⌝ }
     requires { ⌜ Unused (now best) (now back) (edition1 .«work_cells») ⌝ }
     ensures { λ r. ⌜ Says (chosen (phraseOf (now (bytes .entry))) (columnsOf (now (bytes .entry)) (task .candidate))) r ⌝ }
     ensures { λ _. ⌜ (now (best .exit) ≡ now (best .entry)) × (now (back .exit) ≡ now (back .entry)) ⌝ }
@@ -148,18 +164,57 @@ pub fn search(
     if !runs.spoken {
         return no_path(Answer::None);
     }
-    let first = attempt(best, back, bytes, task, nuclei, Pass::NucleiStrict);
+    let at = task.at;
+    let n = at.boundaries.count;
+    let first = attempt(
+        best,
+        back,
+        bytes,
+        task,
+        words,
+        figures,
+        n,
+        Pass::NucleiStrict,
+    );
     let answer = first.answer;
     if answer.is_found() {
         return first;
     }
     if !runs.added {
-        return attempt(best, back, bytes, task, nuclei, Pass::NucleiRelaxed);
+        return attempt(
+            best,
+            back,
+            bytes,
+            task,
+            words,
+            figures,
+            n,
+            Pass::NucleiRelaxed,
+        );
     }
-    let second = attempt(best, back, bytes, task, added, Pass::CountStrict);
+    let d = at.added.count;
+    let second = attempt(
+        best,
+        back,
+        bytes,
+        task,
+        added_words,
+        added_figures,
+        d,
+        Pass::CountStrict,
+    );
     let answer = second.answer;
     if answer.is_found() {
         return second;
     }
-    attempt(best, back, bytes, task, added, Pass::CountRelaxed)
+    attempt(
+        best,
+        back,
+        bytes,
+        task,
+        added_words,
+        added_figures,
+        d,
+        Pass::CountRelaxed,
+    )
 }

@@ -22,6 +22,7 @@ use Rattle.paths.proofs.LookAhead.{holds-none, holds-one, holds-more}
 use Rattle.stages.specs.Tables.{beyond}
 use Rattle.spans.specs.Spans.{spanOf}
 use Rattle.frames.specs.declared.span.Span.{Span}
+use Rattle.prepare.specs.Sides.{spanAhead}
 use Rattle.clip.specs.Clip.{anchored, unanchored, given}
 use Rattle.entries.specs.Entry.{noRow}
 use Rattle.decoding.specs.Report.{lowEdge, highEdge, rowSpan, heldBy, placedBy, placed}
@@ -79,19 +80,19 @@ module _ (phrase : Phrase) (stage : Stage) (up : Increasing (stage .anchors)) (l
         go false less more = subst P (sym (holds-none rising beyond from to (last _ (ok .inside)) (more tt))) (none (more tt))
 
     pub placed-by-tables :
-        placeOf (stage .anchors) (stage .boundaries) (lowEdge (phrase .speech)) (highEdge (phrase .speech)) from to ahead (rowAhead 0 (kept phrase stage) from)
-        ≡ placeIn phrase stage unit
-    unfolding placeOf placedBy rowSpan
+        let span = spanAhead stage (lowEdge (phrase .speech)) (highEdge (phrase .speech)) ahead in
+        placeOf from to ahead (rowAhead 0 (kept phrase stage) from) (span .start) (span .end) ≡ placeIn phrase stage unit
+    unfolding placeOf placedBy rowSpan spanAhead
     placed-by-tables =
-        held-either (λ anchors. place (ltb ahead to) ≡ placeFor phrase stage unit anchors)
-        (λ h. ap place (le-ltb ahead to h))
-        (λ h. ap place (lt-ltb ahead to h))
+        held-either (λ anchors. place (spanAhead stage (lowEdge (phrase .speech)) (highEdge (phrase .speech)) ahead) (ltb ahead to) ≡ placeFor phrase stage unit anchors)
+        (λ h. ap (place _) (le-ltb ahead to h))
+        (λ h. ap (place _) (lt-ltb ahead to h) ∙ ap (λ (b : Bool). place (cond b span (record { start = 0; end = 0 })) true) (lt-ltb ahead beyond (omega (arith, h, last _ (ok .inside)))))
       where
         span : Span
         span = spanOf (stage .anchors) (stage .boundaries) (lowEdge (phrase .speech)) (highEdge (phrase .speech)) ahead
 
-        place : Bool → PlacedUnit
-        place b = cond b (record { start = span .start; end = span .end; row = rowAhead 0 (kept phrase stage) from }) (record { start = from; end = to; row = noRow })
+        place : Span → Bool → PlacedUnit
+        place x b = cond b (record { start = x .start; end = x .end; row = rowAhead 0 (kept phrase stage) from }) (record { start = from; end = to; row = noRow })
 
     -- the row says whether there is an anchor
     pub told-by-row : rowAhead 0 (kept phrase stage) from < noRow →
@@ -109,15 +110,14 @@ module _ (phrase : Phrase) (stage : Stage) (up : Increasing (stage .anchors)) (l
 
 -- ---- a unit with its anchor, and one without
 
-module _ (anchors bounds : List ℕ) (lo hi from to ahead row : ℕ) where
-  abbrev either : Span → Bool → PlacedUnit
-  either span b = cond b (record { start = span .start; end = span .end; row = row }) (record { start = from; end = to; row = noRow })
+module _ (from to ahead row start end : ℕ) where
+  abbrev either : Bool → PlacedUnit
+  either b = cond b (record { start = start; end = end; row = row }) (record { start = from; end = to; row = noRow })
 
-  pub place-anchored : {span : Span} → span ≡ spanOf anchors bounds lo hi ahead → ahead < to
-      → record { start = span .start; end = span .end; row = row } ≡ placeOf anchors bounds lo hi from to ahead row
+  pub place-anchored : ahead < to → record { start = start; end = end; row = row } ≡ placeOf from to ahead row start end
   unfolding placeOf
-  place-anchored e h = ap (λ (s : Span). either s true) e ∙ ap (either (spanOf anchors bounds lo hi ahead)) (sym (lt-ltb ahead to h))
+  place-anchored h = ap either (sym (lt-ltb ahead to h))
 
-  pub place-bare : to ≤ ahead → record { start = from; end = to; row = noRow } ≡ placeOf anchors bounds lo hi from to ahead row
+  pub place-bare : to ≤ ahead → record { start = from; end = to; row = noRow } ≡ placeOf from to ahead row start end
   unfolding placeOf
-  place-bare h = ap (either (spanOf anchors bounds lo hi ahead)) (sym (le-ltb ahead to h))
+  place-bare h = ap either (sym (le-ltb ahead to h))

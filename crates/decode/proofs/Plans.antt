@@ -1,27 +1,29 @@
 -- Whether there is an added stage, and whether a nucleus is in the mask.
 use Prim.Native.Nat.{ℕ, _<_}
-use mathlib.Core.Bool.{not, true≢false}
+use mathlib.Core.Bool.{true, false, not}
 use mathlib.Core.List.{List, [], _∷_}
-use mathlib.Core.Path.{_≡_, refl, sym, ap, _∙_}
+use mathlib.Core.Path.{_≡_, sym, ap, _∙_}
 use native.Mathlib.Omega.{arith}
 use borrow.Author.Tests.{eq-eqb, ne-eqb}
 use lib.Dec.{eqb}
-use lib.ListN.{length}
+use lib.Ieee.{Float}
+use lib.ListN.{length, take, drop}
+use lib.Seq.{take-append-seam}
 use Rattle.phrase.specs.Phrase.{Phrase}
 use Rattle.paths.specs.Anchors.{keptIn}
 use Rattle.paths.specs.Passes.{nonEmpty, hasNucleus}
 use Rattle.record.specs.Meaning.{phraseOf}
 use Rattle.record.specs.Accepted.{Laid}
+use Rattle.record.specs.Reading.{Copied}
 use Rattle.record.specs.declared.layout.Layout.{Layout}
 use Rattle.record.specs.declared.read.Which.the-variants.{Count}
 use Rattle.record.proofs.Below.{length-listed}
 use Rattle.record.proofs.Reading.{anchors-are}
 use Rattle.prepare.proofs.Parts.{nuclei-first}
-use Rattle.prepare.specs.declared.side.Side.{Side}
-use Rattle.prepare.specs.Sides.{SideOf}
-use Rattle.closed.specs.Answered.{BothTabled}
+use Rattle.closed.specs.Answered.{BothLent}
+use Rattle.prepare.specs.Sides.{Prepared}
 use Rattle.decode.specs.declared.plan.Plan.{Plan}
-use Rattle.decode.specs.Plans.{AddedSide, PlanOf}
+use Rattle.decode.specs.Plans.{PlanOf, AddedLaid, Lends}
 
 counted-there : (xs : List ℕ) (n : ℕ) → length xs ≡ n → not (eqb n 0) ≡ nonEmpty xs
 counted-there [] n e = ap not (eq-eqb n 0 (sym e))
@@ -41,16 +43,40 @@ module _ {bytes : List ℕ} {at : Layout} (h : Laid bytes at) where
   pub runs-added : not (eqb (at .anchors .count) 0) ≡ nonEmpty (phraseOf bytes .added .anchors)
   runs-added = counted-there (phraseOf bytes .added .anchors) (at .anchors .count) added-count
 
-  pub without-added : (nuclei : Side) → at .anchors .count ≡ 0 → AddedSide (phraseOf bytes) nuclei nuclei
-  without-added nuclei none = record { there = λ e. absurd (true≢false (sym e ∙ sym runs-added ∙ ap not (eq-eqb _ 0 none))); lacking = λ e. refl }
+  pub none-added : at .anchors .count ≡ 0 → nonEmpty (phraseOf bytes .added .anchors) ≡ false
+  none-added none = sym runs-added ∙ ap not (eq-eqb _ 0 none)
 
-  pub with-added : {nuclei side : Side} → (at .anchors .count ≡ 0 → ⊥) → SideOf (phraseOf bytes) (phraseOf bytes .added) side → AddedSide (phraseOf bytes) nuclei side
-  with-added some sided = record { there = λ e. sided; lacking = λ e. absurd (true≢false (sym (ap not (ne-eqb _ 0 some)) ∙ runs-added ∙ e)) }
+  pub one-added : (at .anchors .count ≡ 0 → ⊥) → nonEmpty (phraseOf bytes .added .anchors) ≡ true
+  one-added some = sym runs-added ∙ ap not (ne-eqb _ 0 some)
 
   pub runs-voiced : {mask nuclei : List ℕ} → mask ≡ phraseOf bytes .mask → nuclei ≡ phraseOf bytes .nuclei .anchors → nonEmpty (keptIn mask 0 nuclei) ≡ hasNucleus (phraseOf bytes)
   unfolding hasNucleus
   runs-voiced masked inserted i = nonEmpty (keptIn (masked i) (sym (nuclei-first h) i) (inserted i))
 
--- the tables of both stages
-pub both-tabled : {phrase : Phrase} {plan : Plan} → PlanOf phrase plan → BothTabled phrase (plan .nuclei .tables) (plan .added .tables)
-both-tabled planned = record { nuclei = planned .nuclei .tables .tabled; added = λ e. planned .added .there e .tables .tabled }
+-- the front of a buffer that a list was copied to
+pub copied-front : {xs old new : List ℕ} {count : ℕ} → Copied xs old new count → take count new ≡ xs
+copied-front {xs} {old} {new} copied = ap (λ (n : ℕ). take n new) (copied .counted) ∙ ap (take (length xs)) (copied .buffer) ∙ take-append-seam xs (drop (length xs) old)
+
+-- the lists of both stages, by the edges looked up
+pub lends :
+    {phrase : Phrase} {plan : Plan} {words addedWords before : List ℕ} {figures addedFigures earlier : List Float} → PlanOf phrase plan →
+    Prepared phrase (phrase .nuclei) (plan .«lo_edge») (plan .«hi_edge») words figures →
+    AddedLaid phrase (plan .«lo_edge») (plan .«hi_edge») before earlier addedWords addedFigures → length addedWords ≡ 384 → length addedFigures ≡ 267 →
+    Lends phrase words figures addedWords addedFigures
+lends {phrase} {words = words} {addedWords = addedWords} {figures = figures} {addedFigures = addedFigures} planned nuclei added long enough = record {
+  nuclei = coe 0 1 (i. Prepared phrase (phrase .nuclei) (planned .low i) (planned .high i) words figures) nuclei;
+  added = λ there. coe 0 1 (i. Prepared phrase (phrase .added) (planned .low i) (planned .high i) addedWords addedFigures) (added .there there);
+  addedWorded = long;
+  addedFigured = enough;
+}
+
+-- the lists of both stages, as the search is lent them
+pub both-lent :
+    {phrase : Phrase} {words addedWords : List ℕ} {figures addedFigures : List Float} →
+    Lends phrase words figures addedWords addedFigures → BothLent phrase words figures addedWords addedFigures
+both-lent lent = record {
+  whole = record { worded = lent .nuclei .worded; figured = lent .nuclei .figured };
+  addedWhole = record { worded = lent .addedWorded; figured = lent .addedFigured };
+  nuclei = lent .nuclei .tables .tabled;
+  added = λ there. lent .added there .tables .tabled;
+}

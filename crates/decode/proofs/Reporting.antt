@@ -1,13 +1,14 @@
 -- From the arrays that the code fills to the units that are to be reported.
-use Prim.Native.Nat.{ℕ, zero, suc, _+_, _-_, _≤_, _<_}
+use Prim.Native.Nat.{ℕ, zero, suc, _+_, _-_, _*_, _≤_, _<_}
 use mathlib.Core.Bool.{cond}
 use mathlib.Core.List.{List, [], _∷_, _++_, map, zipWith}
 use mathlib.Core.Path.{_≡_, refl, sym, ap, ap₂, _∙_}
 use native.Mathlib.Nat.{zero-add}
 use native.Mathlib.Omega.{arith}
 use lib.Dec.{eqb}
-use lib.ListN.{length, getD, take, replicate, length-map, length-replicate, List·getD-append, List·getD-map, length-append}
-use lib.Seq.{ext-getD, getD-take, length-take-le}
+use lib.Ieee.{Float}
+use lib.ListN.{length, getD, drop, replicate, length-map, length-replicate, List·getD-append, List·getD-map, length-append}
+use lib.Seq.{ext-getD, getD-take, getD-drop}
 use Rattle.phrase.specs.Phrase.{Phrase, Stage}
 use Rattle.paths.specs.declared.passes.Strictness.{Strictness}
 use Rattle.paths.specs.Frames.{Increasing}
@@ -16,16 +17,13 @@ use Rattle.paths.specs.LookAhead.{rowAhead}
 use Rattle.paths.specs.StageProblem.{boundary}
 use Rattle.paths.specs.Marks.{Bounds}
 use Rattle.stages.specs.declared.tables.StageTables.{StageTables}
-use Rattle.stages.specs.Tables.{Tabled, beyond}
+use Rattle.stages.specs.Tables.{Tabled, beyond, tableAt, tablesIn}
 use Rattle.stages.specs.Listed.{padded, listed, tableOf}
-use Rattle.stages.specs.Made.{tablesOf}
 use Rattle.stages.proofs.Listed.{length-listed, listed-at, padded-in, length-padded, table-at, length-table}
 use Rattle.rows.specs.declared.trace.Units.{Units}
 use Rattle.rows.specs.Traced.{firstsOf, lastsOf, UnitsAre}
 use Rattle.rows.specs.Traced as Traced
-use Rattle.prepare.specs.declared.side.Side.{Side}
-use Rattle.prepare.specs.Sides.{durationsOf, SideOf}
-use Rattle.prepare.proofs.Lists.{its-length, its-front}
+use Rattle.prepare.specs.Sides.{Prepared}
 use Rattle.clip.specs.Clip.{Placed, anchored, unanchored, reported}
 use Rattle.clip.specs.Units.{unitAt, unitsFrom}
 use Rattle.frames.specs.declared.span.Span.{Span}
@@ -65,21 +63,25 @@ zip-at held (b ∷ bs) (x ∷ xs) e (suc i) h = zip-at held bs xs (omega arith) 
 
 -- ---- the units of a path through a stage
 
--- what is known of a side and a path's units
-pub record Found (phrase : Phrase) (stage : Stage) (strictness : Strictness) (side : Side) (units : Units) (bs : List Bounds) : Type 0 where
-  pub sided : SideOf phrase stage side
+-- what is known of a stage's words and a path's units
+pub record Found (phrase : Phrase) (stage : Stage) (strictness : Strictness) (words : List ℕ) (units : Units) (bs : List Bounds) : Type 0 where
+  pub figures : List Float
+  pub prepared : Prepared phrase stage (lowEdge (phrase .speech)) (highEdge (phrase .speech)) words figures
   pub are : UnitsAre units bs
   pub few : length bs ≤ 16
-  pub fewAnchors : length (stage .anchors) ≤ 64
   pub fewBoundaries : length (stage .boundaries) ≤ 64
   pub up : Increasing (stage .anchors)
   pub last : (i : ℕ) → i < length (stage .boundaries) → boundary stage i ≤ beyond
   pub rows : (i : ℕ) → i < length (stage .boundaries) → rowAhead 0 (kept phrase stage) (boundary stage i) < noRow
   pub ok : (i : ℕ) → i < length bs → UnitOk phrase stage strictness (getD bs i noBounds)
 
-module _ {phrase : Phrase} {stage : Stage} {strictness : Strictness} {side : Side} {units : Units} {bs : List Bounds} (f : Found phrase stage strictness side units bs) where
+-- an entry of the table k of a list
+entry-of : (k : ℕ) (words : List ℕ) (i : ℕ) → i < 64 → getD (tableAt k words) i 0 ≡ getD words (k * 64 + i) 0
+entry-of k words i below = getD-take 64 (drop (k * 64) words) i 0 below ∙ getD-drop (k * 64) words i 0
+
+module _ {phrase : Phrase} {stage : Stage} {strictness : Strictness} {words : List ℕ} {units : Units} {bs : List Bounds} (f : Found phrase stage strictness words units bs) where
   abbrev t : StageTables
-  t = side .tables
+  t = tablesIn (length (stage .boundaries)) words (f .figures)
 
   abbrev lo : ℕ
   lo = lowEdge (phrase .speech)
@@ -88,7 +90,7 @@ module _ {phrase : Phrase} {stage : Stage} {strictness : Strictness} {side : Sid
   hi = highEdge (phrase .speech)
 
   abbrev tabled : Tabled phrase stage t
-  tabled = f .sided .tables .tabled
+  tabled = f .prepared .tables .tabled
 
   abbrev unit : ℕ → Bounds
   unit i = getD bs i noBounds
@@ -105,60 +107,40 @@ module _ {phrase : Phrase} {stage : Stage} {strictness : Strictness} {side : Sid
   last-is : (i : ℕ) → i < length bs → getD (units .last) i 0 ≡ unit i .last
   last-is = number-is (λ b. b .last) refl (f .are .lasts)
 
-  in-tables : (i : ℕ) → i < length bs → unit i .last < t .size
-  in-tables i h = omega (arith, f .ok i h .inside, tabled .sized)
-
-  -- an array of the tables that has an entry for each boundary
-  array-long : (array : StageTables → List ℕ) (entry : ℕ → ℕ)
-      → array (tablesOf (phrase .mask) (phrase .nuclei .anchors) (stage .anchors) (stage .firstRow) (stage .boundaries) (durationsOf stage) (phrase .costs))
-      ≡ tableOf entry (length (stage .boundaries)) 64 0 → length (array t) ≡ 64
-  array-long array entry is = ap (λ (x : StageTables). length (array x)) (f .sided .tables .exact) ∙ ap length is ∙ length-table entry _ 64 0 (f .fewBoundaries)
-
-  bounds-long : length (t .bounds) ≡ 64
-  unfolding tablesOf
-  bounds-long = array-long (λ x. x .bounds) _ refl
-
-  ahead-long : length (t .first) ≡ 64
-  unfolding tablesOf
-  ahead-long = array-long (λ x. x .first) _ refl
-
-  rows-long : length (t .row) ≡ 64
-  unfolding tablesOf
-  rows-long = array-long (λ x. x .row) _ refl
+  in-tables : (i : ℕ) → i < length bs → unit i .last < length (stage .boundaries)
+  in-tables i h = f .ok i h .inside
 
   units-long : (numbers : List ℕ) → length numbers ≡ length bs → length (numbers ++ replicate (16 - length numbers) 0) ≡ 16
   units-long numbers e = length-append numbers _ ∙ omega (arith, length-replicate {A = ℕ} (16 - length numbers) 0, f .few)
 
-  pub placeable : Placeable side units (length bs)
+  pub placeable : Placeable words units (length bs)
   placeable = record {
     few = f .few;
     firsts = ap length (f .are .firsts) ∙ units-long (firstsOf bs) (length-map bs (λ (b : Bounds). b .first));
     lasts = ap length (f .are .lasts) ∙ units-long (lastsOf bs) (length-map bs (λ (b : Bounds). b .last));
-    frames = its-length (f .sided .anchors) (f .fewAnchors);
-    bounds = bounds-long;
-    ahead = ahead-long;
-    rows = rows-long;
-    anchors = omega (arith, f .sided .anchors .counted, f .fewAnchors);
-    size = omega (arith, tabled .sized, f .fewBoundaries);
-    begins = λ i h. omega (arith, first-is i h, f .ok i h .forward, in-tables i h, tabled .sized, f .fewBoundaries);
-    ends = λ i h. omega (arith, last-is i h, in-tables i h, tabled .sized, f .fewBoundaries);
+    worded = f .prepared .worded;
+    begins = λ i h. omega (arith, first-is i h, f .ok i h .forward, in-tables i h, f .fewBoundaries);
+    ends = λ i h. omega (arith, last-is i h, in-tables i h, f .fewBoundaries);
   }
 
-  bounds-front : take (t .size) (t .bounds) ≡ stage .boundaries
-  bounds-front =
-      let long = length-take-le (t .size) (t .bounds) (omega (arith, bounds-long, tabled .sized, f .fewBoundaries)) in
-      ext-getD 0 _ _ (long ∙ tabled .sized)
-      (λ i h. let below : i < t .size = omega (arith, long) in getD-take (t .size) (t .bounds) i 0 below ∙ tabled .bounded i below)
+  -- an entry for boundary j, from a table of the words
+  looked-up : (k n j : ℕ) {x : ℕ} → n ≡ j → j < length (stage .boundaries) → getD (tableAt k words) j 0 ≡ x → getD words (k * 64 + n) 0 ≡ x
+  looked-up k n j e below is = ap (λ (m : ℕ). getD words (k * 64 + m) 0) e ∙ sym (entry-of k words j (omega (arith, f .fewBoundaries))) ∙ is
 
-  place-is : (i : ℕ) → i < length bs → placeAt side lo hi units i ≡ placeIn phrase stage (unit i)
+  bound-at : (n j : ℕ) {x : ℕ} → n ≡ j → j < length (stage .boundaries) → getD (tableAt 0 words) j 0 ≡ x → getD words n 0 ≡ x
+  bound-at n j e below is = ap (λ (m : ℕ). getD words m 0) (sym (zero-add n)) ∙ looked-up 0 n j e below is
+
+  place-is : (i : ℕ) → i < length bs → placeAt words units i ≡ placeIn phrase stage (unit i)
   place-is i h =
-      let inside : unit i .last < t .size = in-tables i h in
-      let before : unit i .first < t .size = omega (arith, f .ok i h .forward) in
-      let from = ap (λ (n : ℕ). getD (t .bounds) n 0) (first-is i h) ∙ tabled .bounded _ before in
-      let to = ap (λ (n : ℕ). getD (t .bounds) n 0) (last-is i h) ∙ tabled .bounded _ inside in
-      let ahead = ap (λ (n : ℕ). getD (t .first) n 0) (first-is i h) ∙ tabled .firsts _ before in
-      let row = ap (λ (n : ℕ). getD (t .row) n 0) (first-is i h) ∙ tabled .rows _ before in
-      (λ x. placeOf (its-front (f .sided .anchors) x) (bounds-front x) lo hi (from x) (to x) (ahead x) (row x))
+      let inside : unit i .last < length (stage .boundaries) = in-tables i h in
+      let before : unit i .first < length (stage .boundaries) = omega (arith, f .ok i h .forward) in
+      let from = bound-at _ _ (first-is i h) before (tabled .bounded _ before) in
+      let to = bound-at _ _ (last-is i h) inside (tabled .bounded _ inside) in
+      let ahead = looked-up 1 _ _ (first-is i h) before (tabled .firsts _ before) in
+      let row = looked-up 3 _ _ (first-is i h) before (tabled .rows _ before) in
+      let start = looked-up 4 _ _ (first-is i h) before (ap (λ (l : List ℕ). getD l (unit i .first) 0) (f .prepared .starts) ∙ table-at _ (length (stage .boundaries)) 64 0 0 _ before) in
+      let end = looked-up 5 _ _ (first-is i h) before (ap (λ (l : List ℕ). getD l (unit i .first) 0) (f .prepared .ends) ∙ table-at _ (length (stage .boundaries)) 64 0 0 _ before) in
+      (λ x. placeOf (from x) (to x) (ahead x) (row x) (start x) (end x))
       ∙ placed-by-tables phrase stage (f .up) (f .last) (f .ok i h)
 
   abbrev place : Bounds → PlacedUnit
@@ -167,14 +149,14 @@ module _ {phrase : Phrase} {stage : Stage} {strictness : Strictness} {side : Sid
   abbrev spans : List Span
   spans = reported (map (placed phrase stage) bs)
 
-  placed-is : placedList side lo hi units (length bs) ≡ map (placed phrase stage) bs
+  placed-is : placedList words units (length bs) ≡ map (placed phrase stage) bs
   placed-is =
       ap (unitsFrom (column (λ p. p .start)) (column (λ p. p .end)) (column (λ p. p .row)) 0) (length-listed _ (length bs))
       ∙ units-from _ _ _ (placed phrase stage) bs 0 (λ i h. (λ x. told (at (λ p. p .start) i h x) (at (λ p. p .end) i h x) (at (λ p. p .row) i h x))
       ∙ told-by-row phrase stage (f .up) (f .last) (f .ok i h) (f .rows _ (omega (arith, f .ok i h .forward, f .ok i h .inside))))
     where
       column : (PlacedUnit → ℕ) → List ℕ
-      column figure = listed (λ i. figure (placeAt side lo hi units i)) (length bs)
+      column figure = listed (λ i. figure (placeAt words units i)) (length bs)
 
       at : (figure : PlacedUnit → ℕ) (i : ℕ) → i < length bs → getD (column figure) (0 + i) 0 ≡ figure (place (unit i))
       at figure i h = ap (λ (n : ℕ). getD (column figure) n 0) (zero-add i) ∙ listed-at _ (length bs) 0 i h ∙ ap figure (place-is i h)
@@ -186,7 +168,7 @@ module _ {phrase : Phrase} {stage : Stage} {strictness : Strictness} {side : Sid
   spans-long = length-reported (map (placed phrase stage) bs) ∙ length-map bs (placed phrase stage)
 
   -- an array of one figure of each span
-  module _ (figure : Span → ℕ) (none : figure noSpan ≡ 0) {numbers : List ℕ} (e : numbers ≡ padded (map figure (reported (placedList side lo hi units (length bs)))) 16 0) where
+  module _ (figure : Span → ℕ) (none : figure noSpan ≡ 0) {numbers : List ℕ} (e : numbers ≡ padded (map figure (reported (placedList words units (length bs)))) 16 0) where
     figures : numbers ≡ padded (map figure spans) 16 0
     figures = e ∙ ap (λ (us : List Placed). padded (map figure (reported us)) 16 0) placed-is
 
@@ -201,7 +183,7 @@ module _ {phrase : Phrase} {stage : Stage} {strictness : Strictness} {side : Sid
     figures-long : length numbers ≡ 16
     figures-long = ap length figures ∙ length-padded (map figure spans) 16 0 (omega (arith, figures-count, f .few))
 
-  pub reports : {r : Reported} → ReportedAll side lo hi units (length bs) r → Holds (reportedIn phrase stage bs) r
+  pub reports : {r : Reported} → ReportedAll words units (length bs) r → Holds (reportedIn phrase stage bs) r
   unfolding reportedIn
   reports {r} all =
       let long = length-reportedIn phrase stage bs in

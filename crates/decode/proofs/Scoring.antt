@@ -37,21 +37,20 @@ use Rattle.record.specs.declared.layout.Layout.{Layout}
 use Rattle.record.specs.declared.read.Which.{Which}
 use Rattle.record.specs.declared.read.Which.the-variants.{Nuclei, Count}
 use Rattle.record.proofs.Accepted.{fit}
-use Rattle.prepare.specs.declared.side.Side.{Side}
-use Rattle.prepare.specs.Sides.{SideOf}
-use Rattle.prepare.proofs.Parts.{few-anchors, few-boundaries, anchors-fit, boundaries-fit, mask-fits, rows-fit}
+use Rattle.prepare.specs.Sides.{Prepared}
+use Rattle.prepare.proofs.Parts.{few-boundaries, anchors-fit, boundaries-fit, mask-fits, rows-fit}
 use Rattle.entries.specs.Entry.{noRow}
 use Rattle.entries.specs.EntryFrom.{unitsFrom}
 use Rattle.entries.specs.declared.words.EntryHead.{EntryHead}
 use Rattle.decode.specs.declared.plan.Plan.{Plan}
 use Rattle.decode.specs.declared.report.Reported.{Reported}
 use Rattle.decode.specs.declared.entry.Scored.{Scored}
-use Rattle.decoding.specs.Report.{lowEdge, reportedIn, reportedUnits}
+use Rattle.decoding.specs.Report.{lowEdge, highEdge, reportedIn, reportedUnits}
 use Rattle.decoding.specs.Report as Report
 use Rattle.decoding.specs.EntryOf.{missedTotal, missedUnits, totalOf, unitsFor, entryFor, entryBy, entryOf}
 use Rattle.decode.specs.Places.{Placeable, ReportedAll, missedAt, missedBy, Holds}
-use Rattle.decode.specs.Plans.{PlanOf}
-use Rattle.decode.specs.Scored.{sideFor, MissedEntry, ScoredAs}
+use Rattle.decode.specs.Plans.{PlanOf, Worded}
+use Rattle.decode.specs.Scored.{wordsFor, MissedEntry, ScoredAs}
 use Rattle.decoding.proofs.Demands.{answered}
 use Rattle.decoding.proofs.Units.{length-reportedIn}
 use Rattle.decode.proofs.Reporting as Reporting
@@ -79,30 +78,29 @@ module _ {bytes : List ℕ} {at : Layout} (h : Laid bytes at) where
   rows-below : (which : Which) → stageOf which phrase .firstRow + length (stageOf which phrase .anchors) ≤ noRow
   rows-below which = omega (arith, rows-fit h which)
 
-  found-in : (which : Which) (strictness : Strictness) (columns : List ℕ) {side : Side} {units : Units} {path : Path}
-      → SideOf phrase (stageOf which phrase) side → UnitsAre units (unitsOf path) → length (unitsOf path) ≤ 16
+  found-in : (which : Which) (strictness : Strictness) (columns : List ℕ) {words : List ℕ} {figures : List Float} {units : Units} {path : Path}
+      → Prepared phrase (stageOf which phrase) (lowEdge (phrase .speech)) (highEdge (phrase .speech)) words figures → UnitsAre units (unitsOf path) → length (unitsOf path) ≤ 16
       → Admitted (problemOf phrase (stageOf which phrase) strictness columns) path
-      → Reporting.Found phrase (stageOf which phrase) strictness side units (unitsOf path)
-  found-in which strictness columns {side = side} sided are few admitted =
+      → Reporting.Found phrase (stageOf which phrase) strictness words units (unitsOf path)
+  found-in which strictness columns {figures = figures} prepared are few admitted =
       let stage = stageOf which phrase in
-      let tabled = sided .tables .tabled in
+      let tabled = prepared .tables .tabled in
       record {
-        sided = sided;
+        figures = figures;
+        prepared = prepared;
         are = are;
         few = few;
-        fewAnchors = few-anchors h which;
         fewBoundaries = few-boundaries h which;
         up = anchors-fit h which .ascending;
         last = boundaries-last which;
         rows = λ i below.
-            let inside : i < side .tables .size = omega (arith, tabled .sized) in
-            subst (λ (n : ℕ). n < noRow) (tabled .rows i inside)
-            (readable phrase stage (side .tables) tabled (anchors-fit h which .ascending) (boundaries-fit h which .ascending) (few-boundaries h which) (boundaries-last which)
-            (omega (arith, mask-fits h)) noRow (omega arith) (rows-below which) .rows i inside);
+            subst (λ (n : ℕ). n < noRow) (tabled .rows i below)
+            (readable phrase stage _ tabled (anchors-fit h which .ascending) (boundaries-fit h which .ascending) (few-boundaries h which) (boundaries-last which)
+            (omega (arith, mask-fits h)) noRow (omega arith) (rows-below which) .rows i below);
         ok = each-ok phrase stage strictness columns (units-in-order admitted);
       }
 
-  module _ {plan : Plan} (planned : PlanOf phrase plan) {candidate : ℕ} (below : candidate < length (phrase .candidates)) where
+  module _ {plan : Plan} (planned : PlanOf phrase plan) {words addedWords : List ℕ} (worded : Worded phrase words addedWords) {candidate : ℕ} (below : candidate < length (phrase .candidates)) where
     abbrev chosenOne : Candidate
     chosenOne = candidateOf phrase candidate
 
@@ -138,27 +136,27 @@ module _ {bytes : List ℕ} {at : Layout} (h : Laid bytes at) where
         few : length (unitsOf (it .path)) ≤ 16
         few = omega (arith, units-few, few-units)
 
-        path-found : Reporting.Found phrase (passStage phrase pass) (passStrictness pass) (sideFor plan pass) (searched .units) (unitsOf (it .path))
+        path-found : Reporting.Found phrase (passStage phrase pass) (passStrictness pass) (wordsFor words addedWords pass) (searched .units) (unitsOf (it .path))
         path-found = go pass (it .path) (it .units) few (shown .best .admitted) (shown .first)
           where
             go : (pass : Pass) (path : Path) → UnitsAre (searched .units) (unitsOf path) → length (unitsOf path) ≤ 16
                 → Admitted (passProblem phrase pass columns) path → D.FirstOf phrase columns pass (inOrder phrase)
-                → Reporting.Found phrase (passStage phrase pass) (passStrictness pass) (sideFor plan pass) (searched .units) (unitsOf path)
-            go NucleiStrict path are few admitted first = found-in Nuclei _ columns (planned .nuclei) are few admitted
-            go CountStrict path are few admitted first = found-in Count _ columns (planned .added .there (added-exists first tt)) are few admitted
-            go CountRelaxed path are few admitted first = found-in Count _ columns (planned .added .there (added-exists first tt)) are few admitted
-            go NucleiRelaxed path are few admitted first = found-in Nuclei _ columns (planned .nuclei) are few admitted
+                → Reporting.Found phrase (passStage phrase pass) (passStrictness pass) (wordsFor words addedWords pass) (searched .units) (unitsOf path)
+            go NucleiStrict path are few admitted first = found-in Nuclei _ columns (worded .lent .nuclei) are few admitted
+            go CountStrict path are few admitted first = found-in Count _ columns (worded .lent .added (added-exists first tt)) are few admitted
+            go CountRelaxed path are few admitted first = found-in Count _ columns (worded .lent .added (added-exists first tt)) are few admitted
+            go NucleiRelaxed path are few admitted first = found-in Nuclei _ columns (worded .lent .nuclei) are few admitted
 
-        pub can-place : {side : Side} {k : ℕ} → side ≡ sideFor plan pass → k ≡ length columns → Placeable side (searched .units) k
+        pub can-place : {own : List ℕ} {k : ℕ} → own ≡ wordsFor words addedWords pass → k ≡ length columns → Placeable own (searched .units) k
         can-place s counted = coe 1 0 (i. Placeable (s i) (searched .units) ((counted ∙ sym units-few) i)) (Reporting.placeable path-found)
 
-        module _ {side : Side} {k id number : ℕ} {llr : Float} {units : Reported}
-            (s : side ≡ sideFor plan pass) (counted : k ≡ length columns) (named : id ≡ chosenOne .id) (numbered : number ≡ numberOf (searched .answer))
-            (clamped : ClampedLog total llr) (all : ReportedAll side (plan .«lo_edge») (plan .«hi_edge») (searched .units) k units) where
+        module _ {own : List ℕ} {k id number : ℕ} {llr : Float} {units : Reported}
+            (s : own ≡ wordsFor words addedWords pass) (counted : k ≡ length columns) (named : id ≡ chosenOne .id) (numbered : number ≡ numberOf (searched .answer))
+            (clamped : ClampedLog total llr) (all : ReportedAll own (searched .units) k units) where
           holds : Holds (reportedIn phrase (passStage phrase pass) (unitsOf (it .path))) units
           holds =
               Reporting.reports path-found
-              (coe 0 1 (i. ReportedAll (s i) (planned .low i) (planned .high i) (searched .units) ((counted ∙ sym units-few) i) units) all)
+              (coe 0 1 (i. ReportedAll (s i) (searched .units) ((counted ∙ sym units-few) i) units) all)
 
           units-are : unitsFrom (units .starts) (units .ends) (units .rows) k 0 ≡ reportedUnits phrase pass (it .path)
           units-are =

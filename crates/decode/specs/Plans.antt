@@ -1,23 +1,37 @@
--- What is looked up once for a phrase.
+-- What is looked up once for a phrase, and the lists that stand for its stages.
+use Prim.Native.Nat.{ℕ}
 use mathlib.Core.Bool.{true, false}
+use mathlib.Core.List.{List}
 use mathlib.Core.Path.{_≡_}
+use lib.Ieee.{Float}
+use lib.ListN.{length}
 use Rattle.phrase.specs.Phrase.{Phrase}
 use Rattle.paths.specs.Passes.{nonEmpty}
 use Rattle.closed.specs.Answered.{RunsOf}
-use Rattle.prepare.specs.declared.side.Side.{Side}
-use Rattle.prepare.specs.Sides.{SideOf}
+use Rattle.prepare.specs.Sides.{Prepared}
 use Rattle.decode.specs.declared.plan.Plan.{Plan}
 use Rattle.decoding.specs.Report.{lowEdge, highEdge}
-
--- "The added stage [..] exists exactly when A > 0."
-pub record AddedSide (phrase : Phrase) (other side : Side) : Type 0 where
-  pub there : nonEmpty (phrase .added .anchors) ≡ true → SideOf phrase (phrase .added) side
-  pub lacking : nonEmpty (phrase .added .anchors) ≡ false → side ≡ other
 
 pub record PlanOf (phrase : Phrase) (plan : Plan) : Type 0 where
   pub costs : plan .costs ≡ phrase .costs
   pub runs : RunsOf phrase (plan .runs)
-  pub nuclei : SideOf phrase (phrase .nuclei) (plan .nuclei)
-  pub added : AddedSide phrase (plan .nuclei) (plan .added)
   pub low : plan .«lo_edge» ≡ lowEdge (phrase .speech)
   pub high : plan .«hi_edge» ≡ highEdge (phrase .speech)
+
+-- "The added stage [..] exists exactly when A > 0": else its lists stay as they came.
+pub record AddedLaid (phrase : Phrase) (lo hi : ℕ) (words : List ℕ) (figures : List Float) (words′ : List ℕ) (figures′ : List Float) : Type 0 where
+  pub there : nonEmpty (phrase .added .anchors) ≡ true → Prepared phrase (phrase .added) lo hi words′ figures′
+  pub lacking : nonEmpty (phrase .added .anchors) ≡ false → (words′ ≡ words) × (figures′ ≡ figures)
+
+-- The lists of the nuclei's stage and, where there is one, of the added stage.
+pub record Lends (phrase : Phrase) (words : List ℕ) (figures : List Float) (addedWords : List ℕ) (addedFigures : List Float) : Type 0 where
+  pub nuclei : Prepared phrase (phrase .nuclei) (lowEdge (phrase .speech)) (highEdge (phrase .speech)) words figures
+  pub added : nonEmpty (phrase .added .anchors) ≡ true → Prepared phrase (phrase .added) (lowEdge (phrase .speech)) (highEdge (phrase .speech)) addedWords addedFigures
+  pub addedWorded : length addedWords ≡ 384
+  pub addedFigured : length addedFigures ≡ 267
+
+-- the words alone
+pub record Worded (phrase : Phrase) (words addedWords : List ℕ) : Type 0 where
+  pub figures : List Float
+  pub addedFigures : List Float
+  pub lent : Lends phrase words figures addedWords addedFigures

@@ -1,9 +1,12 @@
 // The entry point: from a record and lent memory to result words.
 
 use crate::entry::put_candidates;
+use crate::lay::lay_added;
+use crate::lay::lay_stage;
 use crate::plan::plan_of;
 use checks::check_areas;
 use decoding::answer::Decoded;
+use record::read::Which;
 use record::refusal::Checked;
 use rows::clear::clear;
 ghost use Rattle.decoding.specs.Contract.{Decodes};
@@ -21,7 +24,26 @@ pub fn decode(record: &[u8], best: &mut [f64], back: &mut [u32], out: &mut [u32]
         Checked::Accepted(at) => {
             clear(best, back, WORK_CELLS);
             let plan = plan_of(record, at);
-            put_candidates(best, back, record, at, plan, out);
+            let mut words = [0u32; 384];
+            let mut figures = [0.0f64; 267];
+            let mut added_words = [0u32; 384];
+            let mut added_figures = [0.0f64; 267];
+            let lo = plan.lo_edge;
+            let hi = plan.hi_edge;
+            lay_stage(record, at, Which::Nuclei, lo, hi, &mut words, &mut figures);
+            lay_added(record, at, lo, hi, &mut added_words, &mut added_figures);
+            put_candidates(
+                best,
+                back,
+                record,
+                at,
+                plan,
+                &words,
+                &figures,
+                &added_words,
+                &added_figures,
+                out,
+            );
             let count = at.candidates.count as u32;
             Decoded::Entries(count)
         }

@@ -13,7 +13,6 @@ use entries::ranking::insert_entry;
 use entries::words::EntryHead;
 use ieee::convert::clamp_log;
 use paths::passes::Pass;
-use prepare::side::Side;
 use reading::read;
 use record::layout::Layout;
 ghost use mathlib.Core.List.{_++_};
@@ -31,8 +30,8 @@ ghost use Rattle.record.specs.Meaning.{phraseOf};
 ghost use Rattle.record.specs.Accepted.{Laid};
 ghost use Rattle.record.specs.Reading.{candidateOf};
 ghost use Rattle.decoding.specs.EntryOf.{entryOf, entriesOf};
-ghost use Rattle.decode.specs.Plans.{PlanOf};
-ghost use Rattle.decode.specs.Scored.{sideFor, MissedEntry, ScoredAs};
+ghost use Rattle.decode.specs.Plans.{PlanOf, Worded, Lends};
+ghost use Rattle.decode.specs.Scored.{wordsFor, MissedEntry, ScoredAs};
 
 // An entry, not yet at its rank. Its units are the first of `units`.
 pub struct Scored {
@@ -40,15 +39,15 @@ pub struct Scored {
     pub units: Reported,
 }
 
-// The stage that a pass searches.
-fn side_for(plan: Plan, pass: Pass) -> Side
-    ensures { λ r. ⌜ r ≡ sideFor plan pass ⌝ }
+// The words of the stage that a pass searches.
+fn words_for<'a>(words: &'a [u32], added_words: &'a [u32], pass: Pass) -> &'a [u32]
+    ensures { λ r. ⌜ now r ≡ wordsFor (now (words .entry)) (now («added_words» .entry)) pass ⌝ }
 {
     match pass {
-        Pass::NucleiStrict => plan.nuclei,
-        Pass::CountStrict => plan.added,
-        Pass::CountRelaxed => plan.added,
-        Pass::NucleiRelaxed => plan.nuclei,
+        Pass::NucleiStrict => words,
+        Pass::CountStrict => added_words,
+        Pass::CountRelaxed => added_words,
+        Pass::NucleiRelaxed => words,
     }
 }
 
@@ -68,17 +67,20 @@ fn missed_entry(id: u32, k: usize, pass: u32, unvoiced: f32, at: u32) -> Scored
     Scored { head, units }
 }
 
-fn score_candidate(
+fn score_candidate<'a>(
     bytes: &[u8],
     at: Layout,
     plan: Plan,
     candidate: usize,
     searched: Searched,
+    words: &'a [u32],
+    added_words: &'a [u32],
 ) -> Scored
     requires { ⌜ Laid (now bytes) at ⌝ }
     requires { ⌜ candidate < length (phraseOf (now bytes) .candidates) ⌝ }
     requires { ⌜ PlanOf (phraseOf (now bytes)) plan ⌝ }
     requires { ⌜ Says (chosen (phraseOf (now bytes)) (columnsOf (now bytes) candidate)) searched ⌝ }
+    requires { ⌜ Worded (phraseOf (now bytes)) (now words) (now «added_words») ⌝ }
     ensures { λ r. ⌜ ScoredAs (entryOf (phraseOf (now (bytes .entry))) (candidateOf (phraseOf (now (bytes .entry))) candidate)) r ⌝ }
 {
     let id = read::id(bytes, at, candidate);
@@ -88,8 +90,7 @@ fn score_candidate(
     let pass = answer.number();
     match answer {
         Answer::Found(found, sum) => {
-            let side = side_for(plan, found);
-            let units = reported_units(path, k, side, plan.lo_edge, plan.hi_edge);
+            let units = reported_units(path, k, words_for(words, added_words, found));
             let llr = clamp_log(sum);
             let head = EntryHead {
                 id,
@@ -105,25 +106,28 @@ fn score_candidate(
 }
 
 // One more candidate: its entry goes to its rank among those before it. The work areas end as they came.
-fn put_candidate(
+fn put_candidate<'a>(
     best: &mut [f64],
     back: &mut [u32],
     bytes: &[u8],
     at: Layout,
     plan: Plan,
+    words: &'a [u32],
+    figures: &'a [f64],
+    added_words: &'a [u32],
+    added_figures: &'a [f64],
     number: usize,
     out: &mut [u32],
 )
     requires { ⌜ Laid (now bytes) at ⌝ }
     requires { ⌜ number < length (phraseOf (now bytes) .candidates) ⌝ }
     requires { ⌜ PlanOf (phraseOf (now bytes)) plan ⌝ }
+    requires { ⌜ Lends (phraseOf (now bytes)) (now words) (now figures) (now «added_words») (now «added_figures») ⌝ }
     requires { ⌜ Unused (now best) (now back) (edition1 .«work_cells») ⌝ }
     requires { ⌜ (number + 1) * edition1 .«entry_words» ≤ length (now out) ⌝ }
     ensures { λ _. ⌜ Inserted (edition1 .units) number (entryOf (phraseOf (now (bytes .entry))) (candidateOf (phraseOf (now (bytes .entry))) number)) (now (out .entry)) (now (out .exit)) ⌝ }
     ensures { λ _. ⌜ (now (best .exit) ≡ now (best .entry)) × (now (back .exit) ≡ now (back .entry)) ⌝ }
 {
-    let nuclei = plan.nuclei;
-    let added = plan.added;
     let costs = plan.costs;
     let task = Task {
         at,
@@ -135,11 +139,13 @@ fn put_candidate(
         back,
         bytes,
         task,
-        nuclei.tables,
-        added.tables,
+        words,
+        figures,
+        added_words,
+        added_figures,
         plan.runs,
     );
-    let entry = score_candidate(bytes, at, plan, number, searched);
+    let entry = score_candidate(bytes, at, plan, number, searched, words, added_words);
     let units = entry.units;
     let starts = units.starts;
     let ends = units.ends;
@@ -148,16 +154,21 @@ fn put_candidate(
 }
 
 // Every candidate of the record, in its order.
-pub fn put_candidates(
+pub fn put_candidates<'a>(
     best: &mut [f64],
     back: &mut [u32],
     bytes: &[u8],
     at: Layout,
     plan: Plan,
+    words: &'a [u32],
+    figures: &'a [f64],
+    added_words: &'a [u32],
+    added_figures: &'a [f64],
     out: &mut [u32],
 )
     requires { ⌜ Laid (now bytes) at ⌝ }
     requires { ⌜ PlanOf (phraseOf (now bytes)) plan ⌝ }
+    requires { ⌜ Lends (phraseOf (now bytes)) (now words) (now figures) (now «added_words») (now «added_figures») ⌝ }
     requires { ⌜ Unused (now best) (now back) (edition1 .«work_cells») ⌝ }
     requires { ⌜ length (phraseOf (now bytes) .candidates) * edition1 .«entry_words» ≤ length (now out) ⌝ }
     ensures { λ _. ⌜ now (out .exit) ≡ allWords (edition1 .units) (ranked (entriesOf (phraseOf (now (bytes .entry))))) ++ drop (length (phraseOf (now (bytes .entry)) .candidates) * edition1 .«entry_words») (now (out .entry)) ⌝ }
@@ -165,6 +176,18 @@ pub fn put_candidates(
 {
     let count = at.candidates.count;
     for candidate in 0..count {
-        put_candidate(best, back, bytes, at, plan, candidate, out);
+        put_candidate(
+            best,
+            back,
+            bytes,
+            at,
+            plan,
+            words,
+            figures,
+            added_words,
+            added_figures,
+            candidate,
+            out,
+        );
     }
 }

@@ -2,6 +2,7 @@
 
 pub mod decode;
 pub mod entry;
+pub mod lay;
 pub mod missed;
 pub mod plan;
 pub mod report;

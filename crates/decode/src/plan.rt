@@ -2,8 +2,6 @@
 
 use closed::search::Runs;
 use phrase::costs::Costs;
-use prepare::side::Side;
-use prepare::side::side_of;
 use reading::read;
 use record::layout::Layout;
 use record::read::Edges;
@@ -12,19 +10,15 @@ use stages::anchors::has_nucleus;
 ghost use mathlib.Core.Path.{_≡_};
 ghost use Rattle.closed.specs.Answered.{RunsOf};
 ghost use Rattle.paths.specs.Passes.{speaks};
-ghost use Rattle.prepare.specs.Sides.{SideOf};
 ghost use Rattle.record.specs.Meaning.{phraseOf};
 ghost use Rattle.record.specs.Accepted.{Laid};
 ghost use Rattle.record.specs.Reading.{edgesOf};
 ghost use Rattle.decoding.specs.Report.{lowEdge, highEdge};
-ghost use Rattle.decode.specs.Plans.{AddedSide, PlanOf};
+ghost use Rattle.decode.specs.Plans.{PlanOf};
 
-// `added` is a stage of its own only where `runs` says so.
 pub struct Plan {
     pub costs: Costs,
     pub runs: Runs,
-    pub nuclei: Side,
-    pub added: Side,
     pub lo_edge: u32,
     pub hi_edge: u32,
 }
@@ -56,28 +50,14 @@ fn hi_edge(edges: Edges) -> u32
     }
 }
 
-// "The added stage exists exactly when A > 0"; else the nuclei's side stands in its place.
-fn added_side(bytes: &[u8], at: Layout, nuclei: Side) -> Side
-    requires { ⌜ Laid (now bytes) at ⌝ }
-    ensures { λ r. ⌜ AddedSide (phraseOf (now (bytes .entry))) nuclei r ⌝ }
-{
-    if at.anchors.count == 0 {
-        nuclei
-    } else {
-        side_of(bytes, at, Which::Count)
-    }
-}
-
-fn runs_of(bytes: &[u8], at: Layout, edges: Edges, nuclei: Side) -> Runs
+fn runs_of(bytes: &[u8], at: Layout, edges: Edges) -> Runs
     requires { ⌜ Laid (now bytes) at ⌝ }
     requires { ⌜ edgesOf edges ≡ phraseOf (now bytes) .speech ⌝ }
-    requires { ⌜ SideOf (phraseOf (now bytes)) (phraseOf (now bytes) .nuclei) nuclei ⌝ }
     ensures { λ r. ⌜ RunsOf (phraseOf (now (bytes .entry))) r ⌝ }
 {
-    let listed = nuclei.anchors;
-    let frames = listed.frames;
-    let count = listed.count;
-    let voiced = has_nucleus(read::mask(bytes, at), &frames[..count]);
+    let mut nuclei = [0u32; 64];
+    let count = read::anchors(bytes, at, Which::Nuclei, &mut nuclei);
+    let voiced = has_nucleus(read::mask(bytes, at), &nuclei[..count]);
     Runs {
         spoken: spoken(edges),
         voiced,
@@ -91,14 +71,10 @@ pub fn plan_of(bytes: &[u8], at: Layout) -> Plan
 {
     let edges = read::speech(bytes, at);
     let costs = read::costs(bytes, at);
-    let nuclei = side_of(bytes, at, Which::Nuclei);
-    let added = added_side(bytes, at, nuclei);
-    let runs = runs_of(bytes, at, edges, nuclei);
+    let runs = runs_of(bytes, at, edges);
     Plan {
         costs,
         runs,
-        nuclei,
-        added,
         lo_edge: lo_edge(edges),
         hi_edge: hi_edge(edges),
     }

@@ -2,9 +2,7 @@
 
 use clip::clip::NO_ROW;
 use clip::clip::clip_unanchored;
-use prepare::side::Side;
 use rows::trace::Units;
-use spans::edges::span_of;
 ghost use mathlib.Core.Path.{_≡_};
 ghost use Rattle.decode.specs.Places.{placeOf, Placeable, PlacedAll, ReportedAll};
 
@@ -21,27 +19,13 @@ pub struct PlacedUnit {
     pub row: u32,
 }
 
-// A unit of the path frames from..to, before clipping. `ahead` is the frame of the first anchor that is kept at or after its start, and `row`
-// that anchor's row.
-fn place_unit(
-    anchors: &[u32],
-    bounds: &[u32],
-    lo_edge: u32,
-    hi_edge: u32,
-    from: u32,
-    to: u32,
-    ahead: u32,
-    row: u32,
-) -> PlacedUnit
-    ensures { λ r. ⌜ r ≡ placeOf (now (anchors .entry)) (now (bounds .entry)) «lo_edge» «hi_edge» from to ahead row ⌝ }
+// A unit of the path frames from..to, before clipping. `ahead` is the frame of the first anchor that is kept at or after its start, `row` that
+// anchor's row, and start..end its span.
+fn place_unit(from: u32, to: u32, ahead: u32, row: u32, start: u32, end: u32) -> PlacedUnit
+    ensures { λ r. ⌜ r ≡ placeOf from to ahead row start end ⌝ }
 {
     if ahead < to {
-        let span = span_of(anchors, bounds, lo_edge, hi_edge, ahead);
-        PlacedUnit {
-            start: span.start,
-            end: span.end,
-            row,
-        }
+        PlacedUnit { start, end, row }
     } else {
         PlacedUnit {
             start: from,
@@ -51,21 +35,13 @@ fn place_unit(
     }
 }
 
-// The first k units of a path through a stage.
-fn placed_units(units: Units, k: usize, side: Side, lo_edge: u32, hi_edge: u32) -> Reported
-    requires { ⌜ Placeable side units k ⌝ }
-    ensures { λ r. ⌜ PlacedAll side «lo_edge» «hi_edge» units k r ⌝ }
+// The first k units of a path through the stage that the words are of.
+fn placed_units(units: Units, k: usize, words: &[u32]) -> Reported
+    requires { ⌜ Placeable (now words) units k ⌝ }
+    ensures { λ r. ⌜ PlacedAll (now (words .entry)) units k r ⌝ }
 {
     let firsts = units.first;
     let lasts = units.last;
-    let tables = side.tables;
-    let bounds = tables.bounds;
-    let first = tables.first;
-    let row = tables.row;
-    let size = tables.size;
-    let listed = side.anchors;
-    let anchors = listed.frames;
-    let count = listed.count;
     let mut starts = [0u32; 16];
     let mut ends = [0u32; 16];
     let mut rows = [0u32; 16];
@@ -73,19 +49,13 @@ fn placed_units(units: Units, k: usize, side: Side, lo_edge: u32, hi_edge: u32) 
     while s < k {
         let i = firsts[s] as usize;
         let j = lasts[s] as usize;
-        let from = bounds[i];
-        let to = bounds[j];
-        let ahead = first[i];
-        let held = row[i];
         let unit = place_unit(
-            &anchors[..count],
-            &bounds[..size],
-            lo_edge,
-            hi_edge,
-            from,
-            to,
-            ahead,
-            held,
+            words[i],
+            words[j],
+            words[64 + i],
+            words[192 + i],
+            words[256 + i],
+            words[320 + i],
         );
         starts[s] = unit.start;
         ends[s] = unit.end;
@@ -95,12 +65,12 @@ fn placed_units(units: Units, k: usize, side: Side, lo_edge: u32, hi_edge: u32) 
     Reported { starts, ends, rows }
 }
 
-// The first k units of a path through a stage, as they are reported.
-pub fn reported_units(units: Units, k: usize, side: Side, lo_edge: u32, hi_edge: u32) -> Reported
-    requires { ⌜ Placeable side units k ⌝ }
-    ensures { λ r. ⌜ ReportedAll side «lo_edge» «hi_edge» units k r ⌝ }
+// The same units, as they are reported.
+pub fn reported_units(units: Units, k: usize, words: &[u32]) -> Reported
+    requires { ⌜ Placeable (now words) units k ⌝ }
+    ensures { λ r. ⌜ ReportedAll (now (words .entry)) units k r ⌝ }
 {
-    let placed = placed_units(units, k, side, lo_edge, hi_edge);
+    let placed = placed_units(units, k, words);
     let mut starts = placed.starts;
     let mut ends = placed.ends;
     let rows = placed.rows;

@@ -8,6 +8,8 @@ use Rattle.paths.specs.declared.passes.Strictness.{Strictness}
 use Rattle.paths.specs.Problem.{Problem}
 use Rattle.paths.specs.Passes.{passProblem}
 use Rattle.record.specs.Meaning.{phraseOf}
+use Rattle.stages.specs.Tables.{tablesIn}
+use Rattle.stages.specs.declared.tables.StageTables.{StageTables}
 use Rattle.closed.specs.Searched.{Agrees}
 use Rattle.closed.specs.Asked.{columnsOf}
 use Rattle.closed.proofs.Staged.{pass-readable, pass-cells, pass-agrees}
@@ -22,29 +24,35 @@ phrase c = phraseOf (c .args .bytes .now)
 abbrev columns : tie.Start → List ℕ
 columns c = columnsOf (c .args .bytes .now) (c .args .task .candidate)
 
+abbrev tables : tie.Start → StageTables
+tables c = tablesIn (c .args .n) (c .args .words .now) (c .args .figures .now)
+
 -- the problem of the pass
 abbrev problem : tie.Start → Problem
 problem c = passProblem (phrase c) (c .args .pass) (columns c)
 
-agreed : (c : tie.After-strictness-of) → let start = c .before .before .before .before in
-    Agrees (phrase start) (columns start) (c .strictness-of .result) (start .args .t) (problem start)
+agreed : (c : tie.After-strictness-of) → let start = c .before .before .before .before .before .before in
+    Agrees (phrase start) (columns start) (c .strictness-of .result) (tables start) (problem start)
 agreed c =
-    let start = c .before .before .before .before in
-    subst⁻¹ (λ (x : Strictness). Agrees (phrase start) (columns start) x (start .args .t) (problem start)) (c .strictness-of .ensures)
-    (pass-agrees (start .pre .0 .0) (start .args .pass) (start .pre .1 .0) (columns start))
+    let start = c .before .before .before .before .before .before in
+    subst⁻¹ (λ (x : Strictness). Agrees (phrase start) (columns start) x (tables start) (problem start)) (c .strictness-of .ensures)
+    (pass-agrees (start .pre .0 .0) (start .args .pass) (start .pre .1 .1 .0) (columns start))
 
 strictness-of-requires : tie.Need-strictness-of-requires
 strictness-of-requires c κs = search needs
 
 best-path-requires : tie.Need-best-path-requires
 best-path-requires c κs =
-    let start = c .before .before .before .before .before .before .before .before in
+    let start = c .before .before .before .before .before .before .before .before .before .before in
     let a = start .args in
     let asked = start .pre .0 .0 in (
       asked,
       (
-        (pass-readable asked (a .pass) (start .pre .1 .0) (start .pre .0 .1), (problem start, agreed (c .before .before .before .before))),
-        pass-cells asked (a .pass) (start .pre .1 .0) (a .best .now) (a .back .now) (start .pre .1 .1),
+        start .pre .1 .0,
+        (
+          (pass-readable asked (a .pass) (start .pre .1 .1 .0) (start .pre .0 .1), (problem start, agreed (c .before .before .before .before))),
+          pass-cells asked (a .pass) (start .pre .1 .1 .0) (a .best .now) (a .back .now) (start .pre .1 .1 .1),
+        ),
       ),
     )
 
@@ -62,7 +70,7 @@ same-length-2 c = search needs
 
 returns : tie.Need-returns
 returns c =
-    let start = c .before .before .before .before .before .before .before .before .before .before .before .before .before .before .before .before .before in
+    let start = c .before .before .before .before .before .before .before .before .before .before .before .before .before .before .before .before .before .before .before in
     let path = c .before .before .before .before .before .before .before .before .best-path in (
       says-found (start .args .pass) (problem start) (length (columns start)) (path .result) (path .ensures .0 (problem start) (agreed (c .before .before .before .before .before .before .before .before .before .before .before .before .before))) (c .before .found .given .1),
       path .ensures .1,
@@ -76,7 +84,7 @@ same-length-4 c = search needs
 
 returns-2 : tie.Need-returns-2
 returns-2 c =
-    let start = c .before .before .before .before .before .before .before .before .before .before .before .before .before .before .before .before in
+    let start = c .before .before .before .before .before .before .before .before .before .before .before .before .before .before .before .before .before .before in
     let path = c .before .before .before .before .before .before .before .best-path in (
       says-none (start .args .pass) (problem start) (length (columns start)) (path .result) (path .ensures .0 (problem start) (agreed (c .before .before .before .before .before .before .before .before .before .before .before .before))) (c .enum-told .given .1),
       path .ensures .1,

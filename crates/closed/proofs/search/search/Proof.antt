@@ -1,14 +1,16 @@
 -- `closed::search::search` meets its contract: proofs/InOrder.antt has the order of the passes. Assumes nothing.
 use mathlib.Core.Bool.{true}
 use mathlib.Core.List.{List}
-use mathlib.Core.Path.{_≡_, refl, sym, _∙_}
+use mathlib.Core.Path.{_≡_, refl, sym, subst, _∙_}
 use Prim.Native.Nat.{ℕ}
 use lib.Ieee.{Float}
 use borrow.Author.Tests.{not-true, not-false}
 use Rattle.phrase.specs.Phrase.{Phrase}
 use Rattle.paths.specs.Passes.{speaks, hasNucleus, nonEmpty}
 use Rattle.record.specs.Meaning.{phraseOf}
+use Rattle.stages.specs.Tables.{Tabled, tablesIn}
 use Rattle.closed.specs.Asked.{columnsOf, Unused}
+use Rattle.closed.proofs.Staged.{boundary-count, added-count}
 use Rattle.closed.proofs.InOrder.{says-unvoiced, says-silent, says-strict, says-relaxed, says-count, says-last}
 use borrow.Author.Needs.{needs}
 use Rattle.closed.proofs.search.search.Statement.{statement}
@@ -21,20 +23,30 @@ abbrev columns : tie.Start → List ℕ
 columns c = columnsOf (c .args .bytes .now) (c .args .task .candidate)
 
 -- what the tests say of the phrase
-voiced : (c : tie.Else1) → hasNucleus (phrase (c .before .before .before .before .before)) ≡ true
+voiced : (c : tie.Else1) → hasNucleus (phrase (c .before .before .before .before .before .before .before .before .before)) ≡ true
 voiced c =
-    let start = c .before .before .before .before .before in
+    let start = c .before .before .before .before .before .before .before .before .before in
     sym (start .pre .0 .1 .voiced) ∙ not-false (start .args .runs .voiced) (c .if1 .left)
 
-spoken : (c : tie.Else2) → speaks (phrase (c .before .before .before .before .before .before .before) .speech) ≡ true
+spoken : (c : tie.Else2) → speaks (phrase (c .before .before .before .before .before .before .before .before .before .before .before) .speech) ≡ true
 spoken c =
-    let start = c .before .before .before .before .before .before .before in
+    let start = c .before .before .before .before .before .before .before .before .before .before .before in
     sym (start .pre .0 .1 .spoken) ∙ not-false (start .args .runs .spoken) (c .if2 .left)
 
-added : (c : tie.Else4) → nonEmpty (phrase (c .before .before .before .before .before .before .before .before .before .before .before .before .before .before .before .before .before .before) .added .anchors) ≡ true
+added : (c : tie.Else4) → nonEmpty (phrase (c .before .before .before .before .before .before .before .before .before .before .before .before .before .before .before .before .before .before .before .before .before .before .before) .added .anchors) ≡ true
 added c =
-    let start = c .before .before .before .before .before .before .before .before .before .before .before .before .before .before .before .before .before .before in
+    let start = c .before .before .before .before .before .before .before .before .before .before .before .before .before .before .before .before .before .before .before .before .before .before .before in
     sym (start .pre .0 .1 .added) ∙ not-false (start .args .runs .added) (c .if4 .left)
+
+-- the tables, by the counts of the layout
+nuclei-tabled : (c : tie.Start) → Tabled (phrase c) (phrase c .nuclei) (tablesIn (c .args .task .at .boundaries .count) (c .args .words .now) (c .args .figures .now))
+nuclei-tabled c = subst (λ (n : ℕ). Tabled (phrase c) (phrase c .nuclei) (tablesIn n (c .args .words .now) (c .args .figures .now))) (boundary-count (c .pre .0 .0 .laid)) (c .pre .1 .0 .nuclei)
+
+added-tabled :
+    (c : tie.Start) → nonEmpty (phrase c .added .anchors) ≡ true →
+    Tabled (phrase c) (phrase c .added) (tablesIn (c .args .task .at .added .count) (c .args .added-words .now) (c .args .added-figures .now))
+added-tabled c there =
+    subst (λ (n : ℕ). Tabled (phrase c) (phrase c .added) (tablesIn n (c .args .added-words .now) (c .args .added-figures .now))) (added-count (c .pre .0 .0 .laid)) (c .pre .1 .0 .added there)
 
 -- areas that are as they came are unused still
 still :
@@ -46,7 +58,7 @@ no-path-requires c κs = search needs
 
 returns : tie.Need-returns
 returns c =
-    let start = c .before .before .before .before .before .before in (
+    let start = c .before .before .before .before .before .before .before .before .before .before in (
       says-unvoiced (phrase start) (columns start) (sym (start .pre .0 .1 .voiced) ∙ not-true (start .args .runs .voiced) (c .before .if1 .taken)) (c .no-path .result) (c .no-path .ensures),
       (refl, refl),
     )
@@ -56,7 +68,7 @@ no-path-requires-2 c κs = search needs
 
 returns-2 : tie.Need-returns-2
 returns-2 c =
-    let start = c .before .before .before .before .before .before .before .before in (
+    let start = c .before .before .before .before .before .before .before .before .before .before .before .before in (
       says-silent (phrase start) (columns start) (voiced (c .before .before .before)) (sym (start .pre .0 .1 .spoken) ∙ not-true (start .args .runs .spoken) (c .before .if2 .taken))
           (c .no-path2 .result) (c .no-path2 .ensures),
       (refl, refl),
@@ -64,8 +76,8 @@ returns-2 c =
 
 attempt-requires : tie.Need-attempt-requires
 attempt-requires c κs =
-    let start = c .before .before .before .before .before .before .before .before .before in
-    ((start .pre .0 .0, voiced (c .before .before .before .before)), (start .pre .0 .2 .nuclei, start .pre .1))
+    let start = c .before .before .before .before .before .before .before .before .before .before .before .before .before .before in
+    ((start .pre .0 .0, voiced (c .before .before .before .before .before)), (start .pre .1 .0 .whole, (nuclei-tabled start, start .pre .1 .1)))
 
 is-found-requires : tie.Need-is-found-requires
 is-found-requires c κs = search needs
@@ -78,17 +90,17 @@ same-length-2 c = search needs
 
 returns-3 : tie.Need-returns-3
 returns-3 c =
-    let start = c .before .before .before .before .before .before .before .before .before .before .before .before .before .before .before .before in
+    let start = c .before .before .before .before .before .before .before .before .before .before .before .before .before .before .before .before .before .before .before .before .before in
     let first = c .before .before .before .before .before .before .attempt in (
-      says-strict (phrase start) (columns start) (voiced (c .before .before .before .before .before .before .before .before .before .before .before)) (spoken (c .before .before .before .before .before .before .before .before .before)) (first .result) (first .ensures .0) (sym (c .before .is-found .ensures) ∙ c .if3 .taken),
+      says-strict (phrase start) (columns start) (voiced (c .before .before .before .before .before .before .before .before .before .before .before .before)) (spoken (c .before .before .before .before .before .before .before .before .before .before)) (first .result) (first .ensures .0) (sym (c .before .is-found .ensures) ∙ c .if3 .taken),
       first .ensures .1,
     )
 
 attempt-requires-2 : tie.Need-attempt-requires-2
 attempt-requires-2 c κs =
-    let start = c .before .before .before .before .before .before .before .before .before .before .before .before .before .before .before .before .before .before .before .before in
+    let start = c .before .before .before .before .before .before .before .before .before .before .before .before .before .before .before .before .before .before .before .before .before .before .before .before .before in
     let first = c .before .before .before .before .before .before .before .before .before .before .attempt .ensures .1 in
-    ((start .pre .0 .0, voiced (c .before .before .before .before .before .before .before .before .before .before .before .before .before .before .before)), (start .pre .0 .2 .nuclei, still (first .0) (first .1) (start .pre .1)))
+    ((start .pre .0 .0, voiced (c .before .before .before .before .before .before .before .before .before .before .before .before .before .before .before .before)), (start .pre .1 .0 .whole, (nuclei-tabled start, still (first .0) (first .1) (start .pre .1 .1))))
 
 same-length-3 : tie.Need-same-length-3
 same-length-3 c = search needs
@@ -98,19 +110,19 @@ same-length-4 c = search needs
 
 returns-4 : tie.Need-returns-4
 returns-4 c =
-    let start = c .before .before .before .before .before .before .before .before .before .before .before .before .before .before .before .before .before .before .before .before .before .before .before .before .before in
+    let start = c .before .before .before .before .before .before .before .before .before .before .before .before .before .before .before .before .before .before .before .before .before .before .before .before .before .before .before .before .before .before in
     let first = c .before .before .before .before .before .before .before .before .before .before .before .before .before .before .before .attempt in
     let last = c .before .before .before .before .attempt2 in (
-      says-relaxed (phrase start) (columns start) (voiced (c .before .before .before .before .before .before .before .before .before .before .before .before .before .before .before .before .before .before .before .before)) (spoken (c .before .before .before .before .before .before .before .before .before .before .before .before .before .before .before .before .before .before)) (first .result) (first .ensures .0) (sym (c .before .before .before .before .before .before .before .before .before .before .is-found .ensures) ∙ c .before .before .before .before .before .before .before .before .before .if3 .left)
+      says-relaxed (phrase start) (columns start) (voiced (c .before .before .before .before .before .before .before .before .before .before .before .before .before .before .before .before .before .before .before .before .before)) (spoken (c .before .before .before .before .before .before .before .before .before .before .before .before .before .before .before .before .before .before .before)) (first .result) (first .ensures .0) (sym (c .before .before .before .before .before .before .before .before .before .before .is-found .ensures) ∙ c .before .before .before .before .before .before .before .before .before .if3 .left)
           (sym (start .pre .0 .1 .added) ∙ not-true (start .args .runs .added) (c .before .before .before .before .before .before .before .if4 .taken)) (last .result) (last .ensures .0),
       (last .ensures .1 .0 ∙ first .ensures .1 .0, last .ensures .1 .1 ∙ first .ensures .1 .1),
     )
 
 attempt-requires-3 : tie.Need-attempt-requires-3
 attempt-requires-3 c κs =
-    let start = c .before .before .before .before .before .before .before .before .before .before .before .before .before .before .before .before .before .before .before .before in
+    let start = c .before .before .before .before .before .before .before .before .before .before .before .before .before .before .before .before .before .before .before .before .before .before .before .before .before in
     let first = c .before .before .before .before .before .before .before .before .before .before .attempt .ensures .1 in
-    ((start .pre .0 .0, voiced (c .before .before .before .before .before .before .before .before .before .before .before .before .before .before .before)), (start .pre .0 .2 .added (added (c .before .before)), still (first .0) (first .1) (start .pre .1)))
+    ((start .pre .0 .0, voiced (c .before .before .before .before .before .before .before .before .before .before .before .before .before .before .before .before)), (start .pre .1 .0 .addedWhole, (added-tabled start (added (c .before .before)), still (first .0) (first .1) (start .pre .1 .1))))
 
 is-found-requires-2 : tie.Need-is-found-requires-2
 is-found-requires-2 c κs = search needs
@@ -123,21 +135,21 @@ same-length-6 c = search needs
 
 returns-5 : tie.Need-returns-5
 returns-5 c =
-    let start = c .before .before .before .before .before .before .before .before .before .before .before .before .before .before .before .before .before .before .before .before .before .before .before .before .before .before .before in
+    let start = c .before .before .before .before .before .before .before .before .before .before .before .before .before .before .before .before .before .before .before .before .before .before .before .before .before .before .before .before .before .before .before .before in
     let first = c .before .before .before .before .before .before .before .before .before .before .before .before .before .before .before .before .before .attempt in
     let second = c .before .before .before .before .before .before .attempt3 in (
-      says-count (phrase start) (columns start) (voiced (c .before .before .before .before .before .before .before .before .before .before .before .before .before .before .before .before .before .before .before .before .before .before)) (spoken (c .before .before .before .before .before .before .before .before .before .before .before .before .before .before .before .before .before .before .before .before)) (first .result) (first .ensures .0) (sym (c .before .before .before .before .before .before .before .before .before .before .before .before .is-found .ensures) ∙ c .before .before .before .before .before .before .before .before .before .before .before .if3 .left)
+      says-count (phrase start) (columns start) (voiced (c .before .before .before .before .before .before .before .before .before .before .before .before .before .before .before .before .before .before .before .before .before .before .before)) (spoken (c .before .before .before .before .before .before .before .before .before .before .before .before .before .before .before .before .before .before .before .before .before)) (first .result) (first .ensures .0) (sym (c .before .before .before .before .before .before .before .before .before .before .before .before .is-found .ensures) ∙ c .before .before .before .before .before .before .before .before .before .before .before .if3 .left)
           (added (c .before .before .before .before .before .before .before .before .before)) (second .result) (second .ensures .0) (sym (c .before .is-found2 .ensures) ∙ c .if5 .taken),
       (second .ensures .1 .0 ∙ first .ensures .1 .0, second .ensures .1 .1 ∙ first .ensures .1 .1),
     )
 
 attempt-requires-4 : tie.Need-attempt-requires-4
 attempt-requires-4 c κs =
-    let start = c .before .before .before .before .before .before .before .before .before .before .before .before .before .before .before .before .before .before .before .before .before .before .before .before .before .before .before .before .before in
+    let start = c .before .before .before .before .before .before .before .before .before .before .before .before .before .before .before .before .before .before .before .before .before .before .before .before .before .before .before .before .before .before .before .before .before .before in
     let first = c .before .before .before .before .before .before .before .before .before .before .before .before .before .before .before .before .before .before .before .attempt .ensures .1 in
     let second = c .before .before .before .before .before .before .before .before .attempt3 .ensures .1 in (
-      (start .pre .0 .0, voiced (c .before .before .before .before .before .before .before .before .before .before .before .before .before .before .before .before .before .before .before .before .before .before .before .before)),
-      (start .pre .0 .2 .added (added (c .before .before .before .before .before .before .before .before .before .before .before)), still (second .0 ∙ first .0) (second .1 ∙ first .1) (start .pre .1)),
+      (start .pre .0 .0, voiced (c .before .before .before .before .before .before .before .before .before .before .before .before .before .before .before .before .before .before .before .before .before .before .before .before .before)),
+      (start .pre .1 .0 .addedWhole, (added-tabled start (added (c .before .before .before .before .before .before .before .before .before .before .before)), still (second .0 ∙ first .0) (second .1 ∙ first .1) (start .pre .1 .1))),
     )
 
 same-length-7 : tie.Need-same-length-7
@@ -148,11 +160,11 @@ same-length-8 c = c .before .before .before .before .attempt4 .kept .1 .0 ∙ c 
 
 returns-6 : tie.Need-returns-6
 returns-6 c =
-    let start = c .before .before .before .before .before .before .before .before .before .before .before .before .before .before .before .before .before .before .before .before .before .before .before .before .before .before .before .before .before .before .before .before .before .before in
+    let start = c .before .before .before .before .before .before .before .before .before .before .before .before .before .before .before .before .before .before .before .before .before .before .before .before .before .before .before .before .before .before .before .before .before .before .before .before .before .before .before in
     let first = c .before .before .before .before .before .before .before .before .before .before .before .before .before .before .before .before .before .before .before .before .before .before .before .before .attempt in
     let second = c .before .before .before .before .before .before .before .before .before .before .before .before .before .attempt3 in
     let last = c .before .before .before .before .attempt4 in (
-      says-last (phrase start) (columns start) (voiced (c .before .before .before .before .before .before .before .before .before .before .before .before .before .before .before .before .before .before .before .before .before .before .before .before .before .before .before .before .before)) (spoken (c .before .before .before .before .before .before .before .before .before .before .before .before .before .before .before .before .before .before .before .before .before .before .before .before .before .before .before)) (first .result) (first .ensures .0) (sym (c .before .before .before .before .before .before .before .before .before .before .before .before .before .before .before .before .before .before .before .is-found .ensures) ∙ c .before .before .before .before .before .before .before .before .before .before .before .before .before .before .before .before .before .before .if3 .left)
+      says-last (phrase start) (columns start) (voiced (c .before .before .before .before .before .before .before .before .before .before .before .before .before .before .before .before .before .before .before .before .before .before .before .before .before .before .before .before .before .before)) (spoken (c .before .before .before .before .before .before .before .before .before .before .before .before .before .before .before .before .before .before .before .before .before .before .before .before .before .before .before .before)) (first .result) (first .ensures .0) (sym (c .before .before .before .before .before .before .before .before .before .before .before .before .before .before .before .before .before .before .before .is-found .ensures) ∙ c .before .before .before .before .before .before .before .before .before .before .before .before .before .before .before .before .before .before .if3 .left)
           (added (c .before .before .before .before .before .before .before .before .before .before .before .before .before .before .before .before)) (second .result) (second .ensures .0) (sym (c .before .before .before .before .before .before .before .before .is-found2 .ensures) ∙ c .before .before .before .before .before .before .before .if5 .left) (last .result) (last .ensures .0),
       (last .ensures .1 .0 ∙ second .ensures .1 .0 ∙ first .ensures .1 .0, last .ensures .1 .1 ∙ second .ensures .1 .1 ∙ first .ensures .1 .1),
     )

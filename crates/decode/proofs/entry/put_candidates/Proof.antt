@@ -26,19 +26,19 @@ record Turn (phrase : Phrase) (count candidate : ℕ) (best₀ best : List Float
   long : length out ≡ length out₀
 
 abbrev Inv-loop : tie.InvT-loop
-Inv-loop best₀ back₀ bytes at plan out₀ count candidate₀ best back out candidate = Turn (phraseOf bytes) count candidate best₀ best back₀ back out₀ out
+Inv-loop best₀ back₀ bytes at plan words figures added-words added-figures out₀ count candidate₀ best back out candidate = Turn (phraseOf bytes) count candidate best₀ best back₀ back out₀ out
 
 abbrev μ-loop : tie.MeasureT-loop
-μ-loop best₀ back₀ bytes at plan out₀ count candidate₀ best back out candidate = count - candidate
+μ-loop best₀ back₀ bytes at plan words figures added-words added-figures out₀ count candidate₀ best back out candidate = count - candidate
 
 loop-holds : tie.Need-loop-holds Inv-loop μ-loop
 loop-holds c =
-    let a = c .before .before .before .before .args in
+    let a = c .before .before .before .before .before .before .before .before .args in
     record { within = omega arith; values = refl; marks = refl; held = none-held (phraseOf (a .bytes .now)) (a .out .now); long = refl }
 
 put-candidate-requires : tie.Need-put-candidate-requires Inv-loop μ-loop
 put-candidate-requires c κs =
-    let start = c .before .before .before .before .before .before .before .before .before in
+    let start = c .before .before .before .before .before .before .before .before .before .before .before .before .before in
     let pre = start .pre in
     let l = c .before .before .before .before .loop in
     let counted = candidate-count (pre .0) in
@@ -49,25 +49,26 @@ put-candidate-requires c κs =
         (
           pre .1 .0,
           (
-            subst⁻¹ (λ (xs : List Float). Unused xs (l .back) (edition1 .«work_cells»)) (l .inv .values)
-                (subst⁻¹ (λ (xs : List ℕ). Unused (start .args .best .now) xs (edition1 .«work_cells»)) (l .inv .marks) (pre .1 .1 .0)),
-            omega (arith, below, l .inv .long, pre .1 .1 .1),
+            pre .1 .1 .0,
+            (
+              subst⁻¹ (λ (xs : List Float). Unused xs (l .back) (edition1 .«work_cells»)) (l .inv .values)
+                  (subst⁻¹ (λ (xs : List ℕ). Unused (start .args .best .now) xs (edition1 .«work_cells»)) (l .inv .marks) (pre .1 .1 .1 .0)),
+              omega (arith, below, l .inv .long, pre .1 .1 .1 .1),
+            ),
           ),
         ),
       ),
     )
 
 add-candidate : tie.Need-add-candidate Inv-loop μ-loop
-add-candidate c =
-    omega (arith, c .before .before .before .before .before .before .before .before .before .before .loop-test .taken, counts (c .before .before .before .before .before .before .before .before .before .before .before .before .before .before .before .before .pre .0) .candidates)
+add-candidate c = omega (arith, c .before .before .before .before .before .before .before .before .before .before .loop-test .taken, counts (c .before .before .before .before .before .before .before .before .before .before .before .before .before .before .before .before .before .before .before .before .pre .0) .candidates)
 
 loop-less : tie.Need-loop-less Inv-loop μ-loop
-loop-less c =
-    omega (arith, c .before .before .before .before .before .before .before .before .before .before .loop-test .taken)
+loop-less c = omega (arith, c .before .before .before .before .before .before .before .before .before .before .loop-test .taken)
 
 loop-again : tie.Need-loop-again Inv-loop μ-loop
 loop-again c =
-    let start = c .before .before .before .before .before .before .before .before .before .before .before .before .before .before .before .before in
+    let start = c .before .before .before .before .before .before .before .before .before .before .before .before .before .before .before .before .before .before .before .before in
     let pre = start .pre in
     let l = c .before .before .before .before .before .before .before .before .before .before .before .loop in
     let put = c .before .before .before .before .before .before .put-candidate in
@@ -78,24 +79,21 @@ loop-again c =
       values = put .ensures .1 .0 ∙ l .inv .values;
       marks = put .ensures .1 .1 ∙ l .inv .marks;
       held = next-held (start .args .bytes .now) (pre .0 .accepted) (l .candidate) (start .args .out .now) (omega (arith, counted, less)) (l .inv .held) (put .ensures .0);
-      long = put .kept .1 .1 .1 .1 .1 .1 .0 ∙ l .inv .long;
+      long = put .kept .1 .1 .1 .1 .1 .1 .1 .1 .1 .1 .0 ∙ l .inv .long;
     }
 
 same-length : tie.Need-same-length Inv-loop μ-loop
-same-length c =
-    ap length (c .before .loop .inv .values)
+same-length c = ap length (c .before .loop .inv .values)
 
 same-length-2 : tie.Need-same-length-2 Inv-loop μ-loop
-same-length-2 c =
-    ap length (c .before .loop .inv .marks)
+same-length-2 c = ap length (c .before .loop .inv .marks)
 
 same-length-3 : tie.Need-same-length-3 Inv-loop μ-loop
-same-length-3 c =
-    c .before .loop .inv .long
+same-length-3 c = c .before .loop .inv .long
 
 returns : tie.Need-returns Inv-loop μ-loop
 returns c =
-    let start = c .before .before .before .before .before .before in
+    let start = c .before .before .before .before .before .before .before .before .before .before in
     let phrase = phraseOf (start .args .bytes .now) in
     let l = c .before .loop in
     let e : l .candidate ≡ length (phrase .candidates) = omega (arith, candidate-count (start .pre .0), l .inv .within, c .loop-test .left) in (

@@ -11,12 +11,6 @@ speech-requires c κs = search needs
 costs-requires : tie.Need-costs-requires
 costs-requires c κs = search needs
 
-side-of-requires : tie.Need-side-of-requires
-side-of-requires c κs = search needs
-
-added-side-requires : tie.Need-added-side-requires
-added-side-requires c κs = search needs
-
 runs-of-requires : tie.Need-runs-of-requires
 runs-of-requires c κs = search needs
 
@@ -29,12 +23,10 @@ hi-edge-requires c κs = search needs
 returns : tie.Need-returns
 returns c =
     record {
-      costs = c .before .before .before .before .before .costs .ensures;
+      costs = c .before .before .before .costs .ensures;
       runs = c .before .before .runs-of .ensures;
-      nuclei = c .before .before .before .before .side-of .ensures;
-      added = c .before .before .before .added-side .ensures;
-      low = c .before .lo-edge .ensures ∙ ap lowEdge (c .before .before .before .before .before .before .speech .ensures);
-      high = c .hi-edge .ensures ∙ ap highEdge (c .before .before .before .before .before .before .speech .ensures);
+      low = c .before .lo-edge .ensures ∙ ap lowEdge (c .before .before .before .before .speech .ensures);
+      high = c .hi-edge .ensures ∙ ap highEdge (c .before .before .before .before .speech .ensures);
     }
 
 pub plan-of-spec : {M : Type 1} → statement M
@@ -43,8 +35,6 @@ plan-of-spec =
     (tie.spec
     speech-requires
     costs-requires
-    side-of-requires
-    added-side-requires
     runs-of-requires
     lo-edge-requires
     hi-edge-requires

@@ -1,11 +1,10 @@
 -- The first units are placed already.
-use Prim.Native.Nat.{ℕ, _-_, _≤_, _<_}
+use Prim.Native.Nat.{ℕ, _+_, _-_, _≤_, _<_}
 use mathlib.Core.List.{List}
-use mathlib.Core.Path.{_≡_, sym, ap, _∙_}
+use mathlib.Core.Path.{_≡_, ap, _∙_}
 use native.Mathlib.Omega.{arith}
 use borrow.Author.Needs.{needs}
-use lib.ListN.{length, getD, take}
-use lib.Seq.{length-take-le}
+use lib.ListN.{length, getD}
 use Rattle.stages.specs.Listed.{tableOf}
 use Rattle.stages.proofs.Listed.{table-none, table-more, length-table}
 use Rattle.decode.specs.declared.report.PlacedUnit.{PlacedUnit}
@@ -13,9 +12,10 @@ use Rattle.decode.specs.Places.{placeOf, placeAt}
 use Rattle.decode.proofs.report.placed_units.Statement.{statement}
 use Rattle.decode.proofs.report.placed_units.Tie as tie
 
-abbrev unitOf : ℕ → ℕ → List ℕ → List ℕ → List ℕ → List ℕ → List ℕ → ℕ → List ℕ → ℕ → ℕ → PlacedUnit
-unitOf lo hi firsts lasts bounds first row size anchors count i =
-    placeOf (take count anchors) (take size bounds) lo hi (getD bounds (getD firsts i 0) 0) (getD bounds (getD lasts i 0) 0) (getD first (getD firsts i 0) 0) (getD row (getD firsts i 0) 0)
+abbrev unitOf : List ℕ → List ℕ → List ℕ → ℕ → PlacedUnit
+unitOf words firsts lasts i =
+    let first = getD firsts i 0 in
+    placeOf (getD words first 0) (getD words (getD lasts i 0) 0) (getD words (64 + first) 0) (getD words (192 + first) 0) (getD words (256 + first) 0) (getD words (320 + first) 0)
 
 -- so many units are placed
 record Done (unit : ℕ → PlacedUnit) (k s : ℕ) (starts ends rows : List ℕ) : Type 0 where
@@ -25,11 +25,10 @@ record Done (unit : ℕ → PlacedUnit) (k s : ℕ) (starts ends rows : List ℕ
   ranked : rows ≡ tableOf (λ i. unit i .row) s 16 0
 
 abbrev Inv-loop : tie.InvT-loop
-Inv-loop k lo-edge hi-edge firsts lasts bounds first row size anchors count starts₀ ends₀ rows₀ s₀ starts ends rows s =
-    Done (unitOf lo-edge hi-edge firsts lasts bounds first row size anchors count) k s starts ends rows
+Inv-loop k words firsts lasts starts₀ ends₀ rows₀ s₀ starts ends rows s = Done (unitOf words firsts lasts) k s starts ends rows
 
 abbrev μ-loop : tie.MeasureT-loop
-μ-loop k lo-edge hi-edge firsts lasts bounds first row size anchors count starts₀ ends₀ rows₀ s₀ starts ends rows s = k - s
+μ-loop k words firsts lasts starts₀ ends₀ rows₀ s₀ starts ends rows s = k - s
 
 -- the arrays keep their sizes
 full : (unit : ℕ → ℕ) (s k : ℕ) (l : List ℕ) → l ≡ tableOf unit s 16 0 → s ≤ k → k ≤ 16 → length l ≡ 16
@@ -44,96 +43,108 @@ loop-holds c = record {
 }
 
 mul-i : tie.Need-mul-i Inv-loop μ-loop
-mul-i c = let pre = c .before .before .before .before .before .before .before .before .before .before .pre in omega (arith, pre .few, pre .bounds, pre .firsts, pre .lasts, pre .ahead, pre .rows)
+mul-i c = let pre = c .before .before .before .before .before .pre in omega (arith, pre .few, pre .worded, pre .firsts, pre .lasts, c .loop-test .taken, pre .begins (c .before .loop .s) (c .loop-test .taken), pre .ends (c .before .loop .s) (c .loop-test .taken))
 
 array-read-i : tie.Need-array-read-i Inv-loop μ-loop
-array-read-i c = let pre = c .before .before .before .before .before .before .before .before .before .before .pre in omega (arith, pre .few, pre .bounds, pre .firsts, pre .lasts, pre .ahead, pre .rows)
+array-read-i c = let pre = c .before .before .before .before .before .pre in omega (arith, pre .few, pre .worded, pre .firsts, pre .lasts, c .loop-test .taken, pre .begins (c .before .loop .s) (c .loop-test .taken), pre .ends (c .before .loop .s) (c .loop-test .taken))
 
 cast-i : tie.Need-cast-i Inv-loop μ-loop
-cast-i c = let pre = c .before .before .before .before .before .before .before .before .before .before .pre in omega (arith, pre .few, pre .bounds, pre .firsts, pre .lasts, pre .ahead, pre .rows, pre .begins (c .before .loop .s) (c .loop-test .taken))
+cast-i c = let pre = c .before .before .before .before .before .pre in omega (arith, pre .few, pre .worded, pre .firsts, pre .lasts, c .loop-test .taken, pre .begins (c .before .loop .s) (c .loop-test .taken), pre .ends (c .before .loop .s) (c .loop-test .taken))
 
 mul-j : tie.Need-mul-j Inv-loop μ-loop
-mul-j c = let pre = c .before .before .before .before .before .before .before .before .before .before .pre in omega (arith, pre .few, pre .bounds, pre .firsts, pre .lasts, pre .ahead, pre .rows)
+mul-j c = let pre = c .before .before .before .before .before .pre in omega (arith, pre .few, pre .worded, pre .firsts, pre .lasts, c .loop-test .taken, pre .begins (c .before .loop .s) (c .loop-test .taken), pre .ends (c .before .loop .s) (c .loop-test .taken))
 
 array-read-j : tie.Need-array-read-j Inv-loop μ-loop
-array-read-j c = let pre = c .before .before .before .before .before .before .before .before .before .before .pre in omega (arith, pre .few, pre .bounds, pre .firsts, pre .lasts, pre .ahead, pre .rows)
+array-read-j c = let pre = c .before .before .before .before .before .pre in omega (arith, pre .few, pre .worded, pre .firsts, pre .lasts, c .loop-test .taken, pre .begins (c .before .loop .s) (c .loop-test .taken), pre .ends (c .before .loop .s) (c .loop-test .taken))
 
 cast-j : tie.Need-cast-j Inv-loop μ-loop
-cast-j c = let pre = c .before .before .before .before .before .before .before .before .before .before .pre in omega (arith, pre .few, pre .bounds, pre .firsts, pre .lasts, pre .ahead, pre .rows, pre .ends (c .before .loop .s) (c .loop-test .taken))
+cast-j c = let pre = c .before .before .before .before .before .pre in omega (arith, pre .few, pre .worded, pre .firsts, pre .lasts, c .loop-test .taken, pre .begins (c .before .loop .s) (c .loop-test .taken), pre .ends (c .before .loop .s) (c .loop-test .taken))
 
-mul-from : tie.Need-mul-from Inv-loop μ-loop
-mul-from c = let pre = c .before .before .before .before .before .before .before .before .before .before .pre in omega (arith, pre .few, pre .bounds, pre .firsts, pre .lasts, pre .ahead, pre .rows, pre .begins (c .before .loop .s) (c .loop-test .taken))
+mul-place-unit : tie.Need-mul-place-unit Inv-loop μ-loop
+mul-place-unit c = let pre = c .before .before .before .before .before .pre in omega (arith, pre .few, pre .worded, pre .firsts, pre .lasts, c .loop-test .taken, pre .begins (c .before .loop .s) (c .loop-test .taken), pre .ends (c .before .loop .s) (c .loop-test .taken))
 
-array-read-from : tie.Need-array-read-from Inv-loop μ-loop
-array-read-from c = let pre = c .before .before .before .before .before .before .before .before .before .before .pre in omega (arith, pre .few, pre .bounds, pre .firsts, pre .lasts, pre .ahead, pre .rows, pre .begins (c .before .loop .s) (c .loop-test .taken))
+shared-slice-read-place-unit : tie.Need-shared-slice-read-place-unit Inv-loop μ-loop
+shared-slice-read-place-unit c = let pre = c .before .before .before .before .before .before .pre in omega (arith, pre .few, pre .worded, pre .firsts, pre .lasts, c .before .loop-test .taken, pre .begins (c .before .before .loop .s) (c .before .loop-test .taken), pre .ends (c .before .before .loop .s) (c .before .loop-test .taken))
 
-mul-to : tie.Need-mul-to Inv-loop μ-loop
-mul-to c = let pre = c .before .before .before .before .before .before .before .before .before .before .pre in omega (arith, pre .few, pre .bounds, pre .firsts, pre .lasts, pre .ahead, pre .rows, pre .ends (c .before .loop .s) (c .loop-test .taken))
+mul-place-unit-2 : tie.Need-mul-place-unit-2 Inv-loop μ-loop
+mul-place-unit-2 c = let pre = c .before .before .before .before .before .before .pre in omega (arith, pre .few, pre .worded, pre .firsts, pre .lasts, c .before .loop-test .taken, pre .begins (c .before .before .loop .s) (c .before .loop-test .taken), pre .ends (c .before .before .loop .s) (c .before .loop-test .taken))
 
-array-read-to : tie.Need-array-read-to Inv-loop μ-loop
-array-read-to c = let pre = c .before .before .before .before .before .before .before .before .before .before .pre in omega (arith, pre .few, pre .bounds, pre .firsts, pre .lasts, pre .ahead, pre .rows, pre .ends (c .before .loop .s) (c .loop-test .taken))
+shared-slice-read-place-unit-2 : tie.Need-shared-slice-read-place-unit-2 Inv-loop μ-loop
+shared-slice-read-place-unit-2 c = let pre = c .before .before .before .before .before .before .before .pre in omega (arith, pre .few, pre .worded, pre .firsts, pre .lasts, c .before .before .loop-test .taken, pre .begins (c .before .before .before .loop .s) (c .before .before .loop-test .taken), pre .ends (c .before .before .before .loop .s) (c .before .before .loop-test .taken))
 
-mul-ahead : tie.Need-mul-ahead Inv-loop μ-loop
-mul-ahead c = let pre = c .before .before .before .before .before .before .before .before .before .before .pre in omega (arith, pre .few, pre .bounds, pre .firsts, pre .lasts, pre .ahead, pre .rows, pre .begins (c .before .loop .s) (c .loop-test .taken))
+add-place-unit : tie.Need-add-place-unit Inv-loop μ-loop
+add-place-unit c = let pre = c .before .before .before .before .before .before .before .pre in omega (arith, pre .few, pre .worded, pre .firsts, pre .lasts, c .before .before .loop-test .taken, pre .begins (c .before .before .before .loop .s) (c .before .before .loop-test .taken), pre .ends (c .before .before .before .loop .s) (c .before .before .loop-test .taken))
 
-array-read-ahead : tie.Need-array-read-ahead Inv-loop μ-loop
-array-read-ahead c = let pre = c .before .before .before .before .before .before .before .before .before .before .pre in omega (arith, pre .few, pre .bounds, pre .firsts, pre .lasts, pre .ahead, pre .rows, pre .begins (c .before .loop .s) (c .loop-test .taken))
+mul-place-unit-3 : tie.Need-mul-place-unit-3 Inv-loop μ-loop
+mul-place-unit-3 c = let pre = c .before .before .before .before .before .before .before .pre in omega (arith, pre .few, pre .worded, pre .firsts, pre .lasts, c .before .before .loop-test .taken, pre .begins (c .before .before .before .loop .s) (c .before .before .loop-test .taken), pre .ends (c .before .before .before .loop .s) (c .before .before .loop-test .taken))
 
-mul-held : tie.Need-mul-held Inv-loop μ-loop
-mul-held c = let pre = c .before .before .before .before .before .before .before .before .before .before .pre in omega (arith, pre .few, pre .bounds, pre .firsts, pre .lasts, pre .ahead, pre .rows, pre .begins (c .before .loop .s) (c .loop-test .taken))
+shared-slice-read-place-unit-3 : tie.Need-shared-slice-read-place-unit-3 Inv-loop μ-loop
+shared-slice-read-place-unit-3 c = let pre = c .before .before .before .before .before .before .before .before .pre in omega (arith, pre .few, pre .worded, pre .firsts, pre .lasts, c .before .before .before .loop-test .taken, pre .begins (c .before .before .before .before .loop .s) (c .before .before .before .loop-test .taken), pre .ends (c .before .before .before .before .loop .s) (c .before .before .before .loop-test .taken))
 
-array-read-held : tie.Need-array-read-held Inv-loop μ-loop
-array-read-held c = let pre = c .before .before .before .before .before .before .before .before .before .before .pre in omega (arith, pre .few, pre .bounds, pre .firsts, pre .lasts, pre .ahead, pre .rows, pre .begins (c .before .loop .s) (c .loop-test .taken))
+add-place-unit-2 : tie.Need-add-place-unit-2 Inv-loop μ-loop
+add-place-unit-2 c = let pre = c .before .before .before .before .before .before .before .before .pre in omega (arith, pre .few, pre .worded, pre .firsts, pre .lasts, c .before .before .before .loop-test .taken, pre .begins (c .before .before .before .before .loop .s) (c .before .before .before .loop-test .taken), pre .ends (c .before .before .before .before .loop .s) (c .before .before .before .loop-test .taken))
 
-array-share-prefix-anchors : tie.Need-array-share-prefix-anchors Inv-loop μ-loop
-array-share-prefix-anchors c = let pre = c .before .before .before .before .before .before .before .before .before .before .pre in omega (arith, pre .anchors, pre .frames)
+mul-place-unit-4 : tie.Need-mul-place-unit-4 Inv-loop μ-loop
+mul-place-unit-4 c = let pre = c .before .before .before .before .before .before .before .before .pre in omega (arith, pre .few, pre .worded, pre .firsts, pre .lasts, c .before .before .before .loop-test .taken, pre .begins (c .before .before .before .before .loop .s) (c .before .before .before .loop-test .taken), pre .ends (c .before .before .before .before .loop .s) (c .before .before .before .loop-test .taken))
 
-slice-aggregate-place-unit : tie.Need-slice-aggregate-place-unit Inv-loop μ-loop
-slice-aggregate-place-unit c = let pre = c .before .before .before .before .before .before .before .before .before .before .before .pre in sym (length-take-le (c .before .before .before .before .before .before .before .before .before .before .before .args .side .anchors .count) (c .before .before .before .before .before .before .before .before .before .before .before .args .side .anchors .frames) (omega (arith, pre .anchors, pre .frames)))
+shared-slice-read-place-unit-4 : tie.Need-shared-slice-read-place-unit-4 Inv-loop μ-loop
+shared-slice-read-place-unit-4 c = let pre = c .before .before .before .before .before .before .before .before .before .pre in omega (arith, pre .few, pre .worded, pre .firsts, pre .lasts, c .before .before .before .before .loop-test .taken, pre .begins (c .before .before .before .before .before .loop .s) (c .before .before .before .before .loop-test .taken), pre .ends (c .before .before .before .before .before .loop .s) (c .before .before .before .before .loop-test .taken))
 
-array-share-prefix-bounds : tie.Need-array-share-prefix-bounds Inv-loop μ-loop
-array-share-prefix-bounds c = let pre = c .before .before .before .before .before .before .before .before .before .before .before .pre in omega (arith, pre .size, pre .bounds)
+add-place-unit-3 : tie.Need-add-place-unit-3 Inv-loop μ-loop
+add-place-unit-3 c = let pre = c .before .before .before .before .before .before .before .before .before .pre in omega (arith, pre .few, pre .worded, pre .firsts, pre .lasts, c .before .before .before .before .loop-test .taken, pre .begins (c .before .before .before .before .before .loop .s) (c .before .before .before .before .loop-test .taken), pre .ends (c .before .before .before .before .before .loop .s) (c .before .before .before .before .loop-test .taken))
 
-slice-aggregate-place-unit-2 : tie.Need-slice-aggregate-place-unit-2 Inv-loop μ-loop
-slice-aggregate-place-unit-2 c = let pre = c .before .before .before .before .before .before .before .before .before .before .before .before .pre in sym (length-take-le (c .before .before .before .before .before .before .before .before .before .before .before .before .args .side .tables .size) (c .before .before .before .before .before .before .before .before .before .before .before .before .args .side .tables .bounds) (omega (arith, pre .size, pre .bounds)))
+mul-place-unit-5 : tie.Need-mul-place-unit-5 Inv-loop μ-loop
+mul-place-unit-5 c = let pre = c .before .before .before .before .before .before .before .before .before .pre in omega (arith, pre .few, pre .worded, pre .firsts, pre .lasts, c .before .before .before .before .loop-test .taken, pre .begins (c .before .before .before .before .before .loop .s) (c .before .before .before .before .loop-test .taken), pre .ends (c .before .before .before .before .before .loop .s) (c .before .before .before .before .loop-test .taken))
+
+shared-slice-read-place-unit-5 : tie.Need-shared-slice-read-place-unit-5 Inv-loop μ-loop
+shared-slice-read-place-unit-5 c = let pre = c .before .before .before .before .before .before .before .before .before .before .pre in omega (arith, pre .few, pre .worded, pre .firsts, pre .lasts, c .before .before .before .before .before .loop-test .taken, pre .begins (c .before .before .before .before .before .before .loop .s) (c .before .before .before .before .before .loop-test .taken), pre .ends (c .before .before .before .before .before .before .loop .s) (c .before .before .before .before .before .loop-test .taken))
+
+add-place-unit-4 : tie.Need-add-place-unit-4 Inv-loop μ-loop
+add-place-unit-4 c = let pre = c .before .before .before .before .before .before .before .before .before .before .pre in omega (arith, pre .few, pre .worded, pre .firsts, pre .lasts, c .before .before .before .before .before .loop-test .taken, pre .begins (c .before .before .before .before .before .before .loop .s) (c .before .before .before .before .before .loop-test .taken), pre .ends (c .before .before .before .before .before .before .loop .s) (c .before .before .before .before .before .loop-test .taken))
+
+mul-place-unit-6 : tie.Need-mul-place-unit-6 Inv-loop μ-loop
+mul-place-unit-6 c = let pre = c .before .before .before .before .before .before .before .before .before .before .pre in omega (arith, pre .few, pre .worded, pre .firsts, pre .lasts, c .before .before .before .before .before .loop-test .taken, pre .begins (c .before .before .before .before .before .before .loop .s) (c .before .before .before .before .before .loop-test .taken), pre .ends (c .before .before .before .before .before .before .loop .s) (c .before .before .before .before .before .loop-test .taken))
+
+shared-slice-read-place-unit-6 : tie.Need-shared-slice-read-place-unit-6 Inv-loop μ-loop
+shared-slice-read-place-unit-6 c = let pre = c .before .before .before .before .before .before .before .before .before .before .before .pre in omega (arith, pre .few, pre .worded, pre .firsts, pre .lasts, c .before .before .before .before .before .before .loop-test .taken, pre .begins (c .before .before .before .before .before .before .before .loop .s) (c .before .before .before .before .before .before .loop-test .taken), pre .ends (c .before .before .before .before .before .before .before .loop .s) (c .before .before .before .before .before .before .loop-test .taken))
 
 place-unit-requires : tie.Need-place-unit-requires Inv-loop μ-loop
 place-unit-requires c κs = search needs
 
 mul-starts : tie.Need-mul-starts Inv-loop μ-loop
-mul-starts c = let pre = c .before .before .before .before .before .before .before .before .before .before .before .before .before .pre in omega (arith, pre .few, c .before .before .before .loop-test .taken)
+mul-starts c = let pre = c .before .before .before .before .before .before .before .before .before .before .before .before .pre in omega (arith, pre .few, pre .worded, pre .firsts, pre .lasts, c .before .before .before .before .before .before .before .loop-test .taken, pre .begins (c .before .before .before .before .before .before .before .before .loop .s) (c .before .before .before .before .before .before .before .loop-test .taken), pre .ends (c .before .before .before .before .before .before .before .before .loop .s) (c .before .before .before .before .before .before .before .loop-test .taken))
 
 array-write-starts : tie.Need-array-write-starts Inv-loop μ-loop
-array-write-starts c = let pre = c .before .before .before .before .before .before .before .before .before .before .before .before .before .pre in let l = c .before .before .before .before .loop in omega (arith, pre .few, full _ _ _ (l .starts) (l .inv .started) (l .inv .within) (pre .few))
+array-write-starts c = let l = c .before .before .before .before .before .before .before .before .loop in let pre = c .before .before .before .before .before .before .before .before .before .before .before .before .pre in omega (arith, pre .few, full _ _ _ (l .starts) (l .inv .started) (l .inv .within) (pre .few))
 
 mul-ends : tie.Need-mul-ends Inv-loop μ-loop
-mul-ends c = let pre = c .before .before .before .before .before .before .before .before .before .before .before .before .before .pre in omega (arith, pre .few, c .before .before .before .loop-test .taken)
+mul-ends c = let pre = c .before .before .before .before .before .before .before .before .before .before .before .before .pre in omega (arith, pre .few, pre .worded, pre .firsts, pre .lasts, c .before .before .before .before .before .before .before .loop-test .taken, pre .begins (c .before .before .before .before .before .before .before .before .loop .s) (c .before .before .before .before .before .before .before .loop-test .taken), pre .ends (c .before .before .before .before .before .before .before .before .loop .s) (c .before .before .before .before .before .before .before .loop-test .taken))
 
 array-write-ends : tie.Need-array-write-ends Inv-loop μ-loop
-array-write-ends c = let pre = c .before .before .before .before .before .before .before .before .before .before .before .before .before .pre in let l = c .before .before .before .before .loop in omega (arith, pre .few, full _ _ _ (l .ends) (l .inv .ended) (l .inv .within) (pre .few))
+array-write-ends c = let l = c .before .before .before .before .before .before .before .before .loop in let pre = c .before .before .before .before .before .before .before .before .before .before .before .before .pre in omega (arith, pre .few, full _ _ _ (l .ends) (l .inv .ended) (l .inv .within) (pre .few))
 
 mul-rows : tie.Need-mul-rows Inv-loop μ-loop
-mul-rows c = let pre = c .before .before .before .before .before .before .before .before .before .before .before .before .before .pre in omega (arith, pre .few, c .before .before .before .loop-test .taken)
+mul-rows c = let pre = c .before .before .before .before .before .before .before .before .before .before .before .before .pre in omega (arith, pre .few, pre .worded, pre .firsts, pre .lasts, c .before .before .before .before .before .before .before .loop-test .taken, pre .begins (c .before .before .before .before .before .before .before .before .loop .s) (c .before .before .before .before .before .before .before .loop-test .taken), pre .ends (c .before .before .before .before .before .before .before .before .loop .s) (c .before .before .before .before .before .before .before .loop-test .taken))
 
 array-write-rows : tie.Need-array-write-rows Inv-loop μ-loop
-array-write-rows c = let pre = c .before .before .before .before .before .before .before .before .before .before .before .before .before .pre in let l = c .before .before .before .before .loop in omega (arith, pre .few, full _ _ _ (l .rows) (l .inv .ranked) (l .inv .within) (pre .few))
+array-write-rows c = let l = c .before .before .before .before .before .before .before .before .loop in let pre = c .before .before .before .before .before .before .before .before .before .before .before .before .pre in omega (arith, pre .few, full _ _ _ (l .rows) (l .inv .ranked) (l .inv .within) (pre .few))
 
 add-s : tie.Need-add-s Inv-loop μ-loop
-add-s c = let pre = c .before .before .before .before .before .before .before .before .before .before .before .before .before .pre in omega (arith, pre .few)
+add-s c = let pre = c .before .before .before .before .before .before .before .before .before .before .before .before .pre in omega (arith, pre .few, pre .worded, pre .firsts, pre .lasts, c .before .before .before .before .before .before .before .loop-test .taken, pre .begins (c .before .before .before .before .before .before .before .before .loop .s) (c .before .before .before .before .before .before .before .loop-test .taken), pre .ends (c .before .before .before .before .before .before .before .before .loop .s) (c .before .before .before .before .before .before .before .loop-test .taken))
 
 loop-less : tie.Need-loop-less Inv-loop μ-loop
-loop-less c = omega arith
+loop-less c = omega (arith, c .before .before .before .before .before .before .before .loop-test .taken)
 
 loop-again : tie.Need-loop-again Inv-loop μ-loop
 loop-again c =
-    let a = c .before .before .before .before .before .before .before .before .before .before .before .before .before .args in
-    let pre = c .before .before .before .before .before .before .before .before .before .before .before .before .before .pre in
-    let l = c .before .before .before .before .loop in
-    let unit : ℕ → PlacedUnit = placeAt (a .side) (a .lo-edge) (a .hi-edge) (a .units) in
+    let a = c .before .before .before .before .before .before .before .before .before .before .before .before .args in
+    let pre = c .before .before .before .before .before .before .before .before .before .before .before .before .pre in
+    let l = c .before .before .before .before .before .before .before .before .loop in
+    let unit : ℕ → PlacedUnit = placeAt (a .words .now) (a .units) in
     let placed = c .place-unit .ensures in
-    let less : l .s < 16 = omega (arith, pre .few, c .before .before .before .loop-test .taken) in
+    let less : l .s < 16 = omega (arith, pre .few, c .before .before .before .before .before .before .before .loop-test .taken) in
     record {
-      within = omega arith;
+      within = omega (arith, c .before .before .before .before .before .before .before .loop-test .taken);
       started = table-more (λ i. unit i .start) (l .s) 16 0 _ (l .starts) (l .inv .started) less (ap (λ (u : PlacedUnit). u .start) placed);
       ended = table-more (λ i. unit i .end) (l .s) 16 0 _ (l .ends) (l .inv .ended) less (ap (λ (u : PlacedUnit). u .end) placed);
       ranked = table-more (λ i. unit i .row) (l .s) 16 0 _ (l .rows) (l .inv .ranked) less (ap (λ (u : PlacedUnit). u .row) placed);
@@ -141,10 +152,10 @@ loop-again c =
 
 returns : tie.Need-returns Inv-loop μ-loop
 returns c =
-    let a = c .before .before .before .before .before .before .before .before .before .before .args in
+    let a = c .before .before .before .before .before .args in
     let l = c .before .loop in
-    let unit : ℕ → PlacedUnit = placeAt (a .side) (a .lo-edge) (a .hi-edge) (a .units) in
-    let e : l .s ≡ a .k = omega (arith, l .inv .within) in
+    let unit : ℕ → PlacedUnit = placeAt (a .words .now) (a .units) in
+    let e : l .s ≡ a .k = omega (arith, l .inv .within, c .loop-test .left) in
     record {
       starts = l .inv .started ∙ ap (λ (n : ℕ). tableOf (λ i. unit i .start) n 16 0) e;
       ends = l .inv .ended ∙ ap (λ (n : ℕ). tableOf (λ i. unit i .end) n 16 0) e;
@@ -164,18 +175,22 @@ placed-units-spec =
     mul-j
     array-read-j
     cast-j
-    mul-from
-    array-read-from
-    mul-to
-    array-read-to
-    mul-ahead
-    array-read-ahead
-    mul-held
-    array-read-held
-    array-share-prefix-anchors
-    slice-aggregate-place-unit
-    array-share-prefix-bounds
-    slice-aggregate-place-unit-2
+    mul-place-unit
+    shared-slice-read-place-unit
+    mul-place-unit-2
+    shared-slice-read-place-unit-2
+    add-place-unit
+    mul-place-unit-3
+    shared-slice-read-place-unit-3
+    add-place-unit-2
+    mul-place-unit-4
+    shared-slice-read-place-unit-4
+    add-place-unit-3
+    mul-place-unit-5
+    shared-slice-read-place-unit-5
+    add-place-unit-4
+    mul-place-unit-6
+    shared-slice-read-place-unit-6
     place-unit-requires
     mul-starts
     array-write-starts
