@@ -2,10 +2,10 @@
 
 use crate::entry::put_candidates;
 use crate::lay::lay_added;
-use crate::lay::lay_stage;
 use crate::plan::plan_of;
 use checks::check_areas;
 use decoding::answer::Decoded;
+use prepare::stage::lay_stage;
 use record::read::Which;
 use record::refusal::Checked;
 use rows::clear::clear;

@@ -1,31 +1,15 @@
 // The lists of the added stage.
 
+use prepare::stage::lay_stage;
 use record::layout::Layout;
 use record::read::Which;
 ghost use mathlib.Core.Path.{_≡_};
 ghost use lib.ListN.{length};
 ghost use Rattle.record.specs.Meaning.{phraseOf};
 ghost use Rattle.record.specs.Accepted.{Laid};
-ghost use Rattle.record.specs.Reading.{stageOf, HasTable};
-ghost use Rattle.prepare.specs.Sides.{Prepared};
 ghost use Rattle.decode.specs.Plans.{AddedLaid};
 
-pub fn lay_stage(
-    bytes: &[u8],
-    at: Layout,
-    which: Which,
-    lo_edge: u32,
-    hi_edge: u32,
-    words: &mut [u32],
-    figures: &mut [f64],
-)
-    requires { ⌜ Laid (now bytes) at ⌝ }
-    requires { ⌜ HasTable which (phraseOf (now bytes)) ⌝ }
-    requires { ⌜ (length (now words) ≡ 384) × (length (now figures) ≡ 267) ⌝ }
-    ensures { λ _. ⌜ Prepared (phraseOf (now (bytes .entry))) (stageOf which (phraseOf (now (bytes .entry)))) «lo_edge» «hi_edge» (now (words .exit)) (now (figures .exit)) ⌝ }
-{}
-
-// "The added stage exists exactly when A > 0"; else its lists stay as they came.
+// "The added stage [..] exists exactly when A > 0"; else its lists stay as they came.
 pub fn lay_added(
     bytes: &[u8],
     at: Layout,

@@ -1,10 +1,10 @@
 // One stage of an accepted record, laid into two lent lists: the tables of its search, and the spans of the anchors ahead.
 
-use evidence::evidence::Span;
-use evidence::evidence::span_of;
+use frames::span::Span;
+use reading::read;
 use record::layout::Layout;
-use record::read;
 use record::read::Which;
+use spans::edges::span_of;
 use stages::ahead::lay_ahead;
 use stages::ahead::pick;
 use stages::anchors::BEYOND;

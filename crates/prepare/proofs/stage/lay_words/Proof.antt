@@ -5,7 +5,7 @@ use mathlib.Core.List.{List}
 use native.Mathlib.Omega.{arith}
 use lib.ListN.{length, getD, take, drop, length-drop}
 use lib.Seq.{length-take-le, drop-at}
-use Rattle.evidence.specs.declared.evidence.Span.{Span}
+use Rattle.frames.specs.declared.span.Span.{Span}
 use Rattle.paths.specs.Anchors.{keptIn}
 use Rattle.paths.specs.LookAhead.{firstAhead}
 use Rattle.stages.specs.Room.{most, room}

@@ -2,7 +2,7 @@
 use mathlib.Core.Path.{sym, ap, _∙_}
 use mathlib.Core.Bool.{Bool, cond}
 use borrow.Author.Tests.{lt-ltb, le-ltb}
-use Rattle.evidence.specs.Spans.{spanOf}
+use Rattle.spans.specs.Spans.{spanOf}
 use Rattle.stages.specs.Tables.{beyond}
 use borrow.Author.Needs.{needs}
 use Rattle.prepare.proofs.stage.span_ahead.Statement.{statement}

@@ -5,7 +5,7 @@ use mathlib.Core.List.{List}
 use native.Mathlib.Omega.{arith}
 use borrow.Author.Needs.{needs}
 use lib.ListN.{length, getD}
-use Rattle.evidence.specs.declared.evidence.Span.{Span}
+use Rattle.frames.specs.declared.span.Span.{Span}
 use Rattle.stages.proofs.Listed.{Filling, filling-none, filling-more, filling-all}
 use Rattle.prepare.specs.Sides.{aheadSpan}
 use Rattle.prepare.proofs.stage.spans_of.Statement.{statement}
