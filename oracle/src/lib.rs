@@ -8,6 +8,7 @@ extern crate self as tonekit_shape;
 
 pub mod arguments;
 pub mod brute;
+pub mod calls;
 pub mod damage;
 pub mod every;
 pub mod generate;
@@ -19,6 +20,7 @@ pub mod phrase;
 pub mod random;
 pub mod reference;
 pub mod refusal;
+pub mod replay;
 mod standins;
 pub mod tally;
 pub mod wanted;

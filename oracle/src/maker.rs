@@ -1,4 +1,4 @@
-//! Makes phrase records: sections in trailer order from byte 0, then the trailer.
+//! Makes phrase records: sections in trailer order from byte 0, or sharing bytes, then the trailer.
 
 use crate::phrase::Phrase;
 
@@ -6,15 +6,20 @@ use crate::phrase::Phrase;
 pub const SECTIONS: usize = 8;
 
 pub fn encode(p: &Phrase) -> Vec<u8> {
-    let mut record = Vec::new();
-    let mut starts = [0usize; SECTIONS];
-    let list = |frames: &[u32]| {
-        frames
-            .iter()
-            .flat_map(|f| f.to_le_bytes())
-            .collect::<Vec<u8>>()
+    laid(p, &sections(p), [0, 1, 2, 3, 4, 5, 6, 7], |_, _| None)
+}
+
+/// The same phrase with sections that share bytes: a section whose bytes stand in the record already stands there.
+pub fn encode_shared(p: &Phrase) -> Vec<u8> {
+    let find = |record: &[u8], section: &[u8]| {
+        (0..=record.len().checked_sub(section.len())?).find(|&at| record[at..].starts_with(section))
     };
-    let sections: [Vec<u8>; SECTIONS] = [
+    laid(p, &sections(p), [7, 5, 6, 2, 4, 1, 3, 0], find)
+}
+
+fn sections(p: &Phrase) -> [Vec<u8>; SECTIONS] {
+    let list = |frames: &[u32]| frames.iter().flat_map(|f| f.to_le_bytes()).collect();
+    [
         p.mask.iter().map(|&m| u8::from(m)).collect(),
         list(&p.nuclei),
         list(&p.boundaries),
@@ -27,10 +32,23 @@ pub fn encode(p: &Phrase) -> Vec<u8> {
             .collect(),
         candidates(p),
         costs(p),
-    ];
-    for (start, section) in starts.iter_mut().zip(&sections) {
-        *start = record.len();
-        record.extend(section);
+    ]
+}
+
+fn laid(
+    p: &Phrase,
+    sections: &[Vec<u8>; SECTIONS],
+    order: [usize; SECTIONS],
+    find: impl Fn(&[u8], &[u8]) -> Option<usize>,
+) -> Vec<u8> {
+    let mut record = Vec::new();
+    let mut starts = [0usize; SECTIONS];
+    for k in order {
+        let found = find(&record, &sections[k]);
+        starts[k] = found.unwrap_or(record.len());
+        if found.is_none() {
+            record.extend(&sections[k]);
+        }
     }
     let columns = p.scores.first().map_or(p.columns, Vec::len);
     let counts = [

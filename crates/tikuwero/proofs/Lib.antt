@@ -1,4 +1,4 @@
 -- Laws that the exported functions' proofs share.
-mod Numbers
+pub mod Numbers
 mod Given
 mod Limits

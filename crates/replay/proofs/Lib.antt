@@ -1,0 +1,2 @@
+-- A law that the loops over cells cite.
+mod Cells

@@ -1,0 +1,32 @@
+-- A number below 1,000 has a negation.
+use native.Mathlib.Omega.{arith}
+use Rattle.tikuwero.proofs.Numbers.{minus-fits}
+use borrow.Author.Needs.{needs}
+use Rattle.replay.proofs.input.Answer.status.Statement.{statement}
+use Rattle.replay.proofs.input.Answer.status.Tie as tie
+
+few-requires : tie.Need-few-requires
+few-requires c κs = search needs
+
+cast-result : tie.Need-cast-result
+cast-result c = search needs
+
+few-requires-2 : tie.Need-few-requires-2
+few-requires-2 c κs = search needs
+
+cast-result-2 : tie.Need-cast-result-2
+cast-result-2 c = search needs
+
+sub-result : tie.Need-sub-result
+sub-result c = minus-fits (c .few2 .result) (omega arith)
+
+returns : tie.Need-returns
+returns c = search needs
+
+returns-2 : tie.Need-returns-2
+returns-2 c = search needs
+
+pub status-spec : {M : Type 1} → statement M
+status-spec =
+    tie.close
+    (tie.spec few-requires cast-result few-requires-2 cast-result-2 sub-result returns returns-2)

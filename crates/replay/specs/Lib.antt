@@ -1,0 +1,2 @@
+-- The definitions of the test program: what a stored case says of lent memory.
+pub mod Marks

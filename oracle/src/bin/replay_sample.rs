@@ -1,0 +1,134 @@
+//! replay_sample COUNT SEED: writes to standard output the cases that `crates/replay` replays, with the original's answers. For each of
+//! COUNT phrases, tiny to maximal, there is its record, a damaged copy that is refused by the number whose turn it is, for every second
+//! one a damaged copy as it comes, and three calls of the other entries. On standard error stands what `crates/replay` is to print,
+//! and what the records hold.
+
+use oracle::arguments::count_and_seed;
+use oracle::calls::Call;
+use oracle::damage::{damage, lengths};
+use oracle::generate::{phrase, Kind};
+use oracle::maker::{encode, encode_shared, sample};
+use oracle::ours::{Decoded, ENTRY_WORDS, WORK_CELLS};
+use oracle::phrase::Phrase;
+use oracle::random::Random;
+use oracle::replay::Sample;
+use oracle::tally::Answers;
+use oracle::wanted;
+use std::io::Write;
+
+/// How often a damaged copy is drawn for one refusal, and the longest copy that is stored.
+const TRIES: usize = 2000;
+const LONGEST_COPY: usize = 40_000;
+
+#[derive(Default)]
+struct Writer {
+    sample: Sample,
+    answers: Answers,
+}
+
+impl Writer {
+    fn record(&mut self, record: &[u8], lent: (usize, usize, usize), decoded: &Decoded) {
+        self.answers.count(decoded);
+        self.sample.record(record, lent, decoded);
+    }
+
+    fn good(&mut self, r: &mut Random, record: &[u8], words: usize) {
+        let (best, back, out) = lent(r, words);
+        let decoded = wanted::decode(record, best, back, out);
+        self.record(record, (best, back, out), &decoded);
+    }
+
+    /// A damaged copy whose answer fits, if one of so many tries gives it.
+    fn damaged(
+        &mut self,
+        r: &mut Random,
+        record: &[u8],
+        words: usize,
+        tries: usize,
+        fits: impl Fn(&Decoded) -> bool,
+    ) {
+        for _ in 0..tries {
+            let mut copy = record.to_vec();
+            damage(r, &mut copy);
+            let (best, back, out) = lent(r, words);
+            if copy.len() > LONGEST_COPY {
+                continue;
+            }
+            let decoded = wanted::decode(&copy, best, back, out);
+            if fits(&decoded) {
+                return self.record(&copy, (best, back, out), &decoded);
+            }
+        }
+    }
+
+    fn call(&mut self, r: &mut Random) {
+        let call = Call::draw(r);
+        self.sample.call(&call, &call.wanted());
+    }
+
+    /// Everything for one phrase. Every fourth record has sections that share bytes.
+    fn phrase(&mut self, r: &mut Random, i: usize) {
+        let kind = if i % 150 == 75 {
+            Kind::Maximal
+        } else {
+            [Kind::Tiny, Kind::Tiny, Kind::Typical][i % 3]
+        };
+        let mut p = phrase(r, kind);
+        let record = if i % 4 == 3 {
+            share_stages(&mut p);
+            encode_shared(&p)
+        } else {
+            encode(&p)
+        };
+        let words = ENTRY_WORDS * p.candidates.len();
+        self.good(r, &record, words);
+        let number = 1 + (i % 11) as i32;
+        self.damaged(r, &record, words, TRIES, |d| *d == Err(number));
+        if i % 2 == 0 {
+            self.damaged(r, &record, words, 1, |_| true);
+        }
+        (0..3).for_each(|_| self.call(r));
+    }
+
+    /// The longest record that is accepted, and a byte more, by bytes that are in no section.
+    fn longest(&mut self, r: &mut Random) {
+        let p = phrase(r, Kind::Typical);
+        for len in [65_536, 65_537] {
+            let tail = encode(&p);
+            let record = [vec![7; len - tail.len()], tail].concat();
+            self.good(r, &record, ENTRY_WORDS * p.candidates.len());
+        }
+    }
+}
+
+/// Lengths as damage draws them, and the long ones a little longer.
+fn lent(r: &mut Random, words: usize) -> (usize, usize, usize) {
+    let (best, back, out) = lengths(r, words);
+    let mut more = |len: usize, needed: usize| len + if len > needed { r.below(8) } else { 0 };
+    (
+        more(best, WORK_CELLS),
+        more(back, WORK_CELLS),
+        more(out, words),
+    )
+}
+
+/// An added stage, where there is one, of the same lists as the nuclei stage.
+fn share_stages(p: &mut Phrase) {
+    if !p.anchors.is_empty() && !p.nuclei.is_empty() {
+        p.scores.truncate(p.nuclei.len());
+        p.scores.extend(p.scores.clone());
+        p.anchors = p.nuclei.clone();
+        p.added = p.boundaries.clone();
+    }
+}
+
+fn main() {
+    let (count, mut r) = count_and_seed("replay_sample");
+    let mut w = Writer::default();
+    w.good(&mut r, &encode(&sample()), 2 * ENTRY_WORDS);
+    w.longest(&mut r);
+    (0..count).for_each(|i| w.phrase(&mut r, i));
+    eprint!("{}", w.sample.printed());
+    eprintln!("records {}", w.answers);
+    std::io::stdout().write_all(&w.sample.bytes).unwrap();
+}
