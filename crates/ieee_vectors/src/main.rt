@@ -47,6 +47,10 @@ fn narrows(v: f64, expected: u32) -> bool {
     f32::to_bits(ieee::convert::narrow(v)) == expected
 }
 
+fn clamps(x: f64, expected: u32) -> bool {
+    f32::to_bits(ieee::convert::clamp_log(x)) == expected
+}
+
 fn widens(x: f32, expected: u64) -> bool
     requires { ⌜ T (not (isNan x)) ⌝ }
 {
@@ -56,7 +60,7 @@ fn widens(x: f32, expected: u64) -> bool
 fn agrees(what: What, given: u64, expected: u64) -> bool {
     match what {
         What::Narrow => narrows(f64_of(given), low_half(expected)),
-        What::Clamp => f32::to_bits(ieee::convert::clamp_log(f64_of(given))) == low_half(expected),
+        What::Clamp => clamps(f64_of(given), low_half(expected)),
         What::Widen => widens(f32_of(given), expected),
         What::Order => ieee::total_order::total_key(f32_of(given))
             < ieee::total_order::total_key(f32_of(expected)),
