@@ -7,3 +7,4 @@ pub mod Places
 pub mod Held
 pub mod Stage
 pub mod OwnTables
+pub mod Parts

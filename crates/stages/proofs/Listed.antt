@@ -1,15 +1,15 @@
 -- Arrays that are filled from the front: one more entry, and what stands where.
 use Prim.Native.Nat.{ℕ, zero, suc, _+_, _-_, _≤_, _<_}
 use mathlib.Core.Path.{_≡_, refl, sym, ap, ap₂, _∙_}
-use mathlib.Core.List.{List, [], _∷_, _++_, append-assoc}
+use mathlib.Core.List.{List, [], _∷_, _++_, append-assoc, append-nil}
 use mathlib.Core.Bool.{Bool, true, false, not}
 use native.Mathlib.Omega.{arith}
 use native.Mathlib.Numerals.{add-one}
 use native.Mathlib.Nat.{sub-zero}
 use lib.Dec.{T, ltb, ltb→lt, nltb→le}
-use lib.ListN.{length, getD, set, replicate, length-append, length-replicate, getD-replicate, List·getD-append}
-use lib.Seq.{set-append-seam, getD-append-add, getD-append-seam}
-use Rattle.stages.specs.Listed.{padded, listed, tableOf}
+use lib.ListN.{length, getD, take, drop, set, replicate, length-append, length-drop, length-replicate, getD-replicate, length-set, List·getD-append}
+use lib.Seq.{set-append-seam, getD-append-add, getD-append-seam, drop-cons, drop-length, set-at, ext-getD}
+use Rattle.stages.specs.Listed.{padded, listed, tableOf, written}
 
 module _ {A : Type 0} where
   pub padded-none : (size : ℕ) (spare : A) → replicate size spare ≡ padded [] size spare
@@ -94,3 +94,62 @@ module _ {A : Type 0} where
       same : (m : ℕ) → ((i : ℕ) → i < m → f i ≡ g i) → listed f m ≡ listed g m
       same zero k = refl
       same (suc m) k = ap₂ (λ (l : List A) (x : A). l ++ (x ∷ [])) (same m (λ i less. k i (omega arith))) (k m (omega arith))
+
+  pub drop-replicate : (n size : ℕ) (x : A) → drop n (replicate size x) ≡ replicate (size - n) x
+  drop-replicate zero size x = let e : size ≡ size - 0 = omega arith in ap (λ (m : ℕ). replicate m x) e
+  drop-replicate (suc n) zero x = let e : zero ≡ zero - suc n = omega arith in ap (λ (m : ℕ). replicate m x) e
+  drop-replicate (suc n) (suc size) x =
+      let e : size - n ≡ suc size - suc n = omega arith in
+      drop-replicate n size x ∙ ap (λ (m : ℕ). replicate m x) e
+
+  -- what is written over spare values is a table
+  pub written-table : (f : ℕ → A) (n size : ℕ) (spare : A) → written f n (replicate size spare) ≡ tableOf f n size spare
+  unfolding padded
+  written-table f n size spare =
+      ap (λ (ys : List A). listed f n ++ ys)
+      (drop-replicate n size spare ∙ ap (λ (m : ℕ). replicate (size - m) spare) (sym (length-listed f n)))
+
+  -- and so is a list of one value, of as many entries
+  pub written-same : (spare : A) (old : List A) → written (λ _. spare) (length old) old ≡ replicate (length old) spare
+  written-same spare old =
+      ap₂ (λ (xs ys : List A). xs ++ ys) (same (length old)) (drop-length old) ∙ append-nil (replicate (length old) spare)
+    where
+      same : (n : ℕ) → listed (λ _. spare) n ≡ replicate n spare
+      same n = ext-getD spare (listed (λ _. spare) n) (replicate n spare) (length-listed (λ _. spare) n ∙ sym (length-replicate n spare))
+          (λ i h.
+          let less : i < n = omega (arith, length-listed (λ (_ : ℕ). spare) n) in
+          listed-at (λ _. spare) n spare i less ∙ sym (getD-replicate n i spare spare less))
+
+  pub length-written : (f : ℕ → A) (n : ℕ) (old : List A) → n ≤ length old → length (written f n old) ≡ length old
+  length-written f n old h = length-append (listed f n) (drop n old) ∙ omega (arith, length-listed f n, length-drop n old)
+
+-- A loop that writes the first n values of a function over the front of a list, j of them so far.
+pub record Filling {A : Type 0} (f : ℕ → A) (n : ℕ) (old now : List A) (j : ℕ) : Type 0 where
+  pub fits : n ≤ length old
+  pub sofar : j ≤ n
+  pub front : now ≡ written f j old
+  pub long : length now ≡ length old
+
+module _ {A : Type 0} {f : ℕ → A} {n : ℕ} {old : List A} where
+  pub filling-none : n ≤ length old → Filling f n old old 0
+  unfolding listed
+  filling-none h = record { fits = h; sofar = omega arith; front = refl; long = refl }
+
+  pub filling-more : {now : List A} {j : ℕ} {x : A} → Filling f n old now j → j < n → x ≡ f j → Filling f n old (set now j x) (j + 1)
+  unfolding listed
+  filling-more {now} {j} {x} filling h e =
+      let below : j < length old = omega (arith, filling .fits) in record {
+        fits = filling .fits;
+        sofar = omega arith;
+        front = ap₂ (λ (l : List A) (y : A). set l j y) (filling .front) e
+            ∙ ap (λ (l : List A). set (listed f j ++ l) j (f j)) (drop-cons old j (f j) below)
+            ∙ set-at (listed f j) (getD old j (f j)) (drop (suc j) old) (f j) j (length-listed f j)
+            ∙ sym (append-assoc (listed f j) (f j ∷ []) (drop (suc j) old))
+            ∙ ap (λ (m : ℕ). written f m old) (sym (add-one j));
+        long = length-set now j x ∙ filling .long;
+      }
+
+  pub filling-all : {now : List A} {j : ℕ} → Filling f n old now j → n ≤ j → now ≡ written f n old
+  filling-all {now} {j} filling h =
+      let e : j ≡ n = omega (arith, filling .sofar) in
+      filling .front ∙ ap (λ (m : ℕ). written f m old) e

@@ -49,7 +49,7 @@ module _ {mask : List ℕ} {anchors : List Anchor} {frames : List ℕ} (orderly 
   place-le : (bound : ℕ) → bound ≤ beyond → countBelow frames bound ≤ length anchors
   place-le bound h = omega (arith, place-is bound h, below-le (framesOf anchors) bound, length-map anchors (λ (a : Anchor). a .frame))
 
-  array-long : length frames ≡ room
+  pub array-long : length frames ≡ room
   array-long = ap length framed ∙ length-padded (framesOf anchors) room beyond (omega (arith, length-map anchors (λ (a : Anchor). a .frame), orderly .few))
 
   pub array-ends : countBelow frames beyond < length frames

@@ -19,6 +19,10 @@ pub record Rises (counts : List ℕ) (i j : ℕ) : Type 0 where
 abbrev pub Ascends : List ℕ → ℕ → Type 0
 Ascends counts last = (i j : ℕ) → i ≤ j → j ≤ last → Rises counts i j
 
+-- both counts, before n boundaries and the edge after them
+abbrev pub Counts : List ℕ → List ℕ → ℕ → Type 0
+Counts speech nuclei n = Ascends speech n × Ascends nuclei n
+
 -- the cost of the stretch from edge i to edge j
 abbrev pub stretch : Costs → List ℕ → List ℕ → ℕ → ℕ → Float
 stretch costs speech nuclei i j = fillerCost costs (getD speech j 0 - getD speech i 0) (getD nuclei j 0 - getD nuclei i 0)

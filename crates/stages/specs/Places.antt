@@ -1,8 +1,14 @@
 -- Where a boundary stands among ascending frames: how many of them are below it.
-use Prim.Native.Nat.{ℕ, suc, _≤_}
+use Prim.Native.Nat.{ℕ, suc, _+_, _≤_}
+use mathlib.Core.Path.{_≡_}
 use mathlib.Core.Bool.{cond}
 use mathlib.Core.List.{List, [], _∷_}
 use lib.Dec.{ltb}
+use lib.ListN.{length}
+use Rattle.paths.specs.Anchors.{Anchor}
+use Rattle.stages.specs.Room.{edges, room}
+use Rattle.stages.specs.Listed.{padded, tableOf}
+use Rattle.stages.specs.Kept.{framesOf, rowsOf}
 use Rattle.stages.specs.Tables.{beyond}
 use Rattle.stages.specs.Edges.{edge}
 
@@ -18,3 +24,9 @@ countBelow (frame ∷ frames) bound = let rest = countBelow frames bound in cond
 -- how many frames are below boundary j, or after the boundaries how many there are
 abbrev pub placeBefore : List ℕ → List ℕ → ℕ → ℕ
 placeBefore frames bounds j = countBelow frames (edge bounds beyond j)
+
+-- the kept anchors in arrays, and the place of each boundary among them
+pub record Placed (anchors : List Anchor) (bounds frames rows places : List ℕ) : Type 0 where
+  pub framed : frames ≡ padded (framesOf anchors) room beyond
+  pub rowed : rows ≡ padded (rowsOf anchors) room 0
+  pub placed : places ≡ tableOf (placeBefore frames bounds) (length bounds + 1) edges 0

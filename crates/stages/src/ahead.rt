@@ -2,14 +2,15 @@
 
 use crate::anchors::kept_anchors;
 use crate::anchors::places;
+use crate::clear::clear_words;
 ghost use mathlib.Core.Path.{_≡_};
-ghost use Prim.Native.Nat.{_+_, _<_, _≤_, _^_};
+ghost use Prim.Native.Nat.{_+_, _*_, _<_, _≤_, _^_};
 ghost use lib.ListN.{length, getD};
 ghost use Rattle.stages.specs.Room.{most};
-ghost use Rattle.stages.specs.Listed.{tableOf};
+ghost use Rattle.stages.specs.Listed.{tableOf, written};
 ghost use Rattle.paths.specs.Anchors.{keptIn};
 ghost use Rattle.stages.specs.Parts.{Fit, FitList, Sees};
-ghost use Rattle.stages.specs.Ahead.{Within, LooksAhead};
+ghost use Rattle.stages.specs.Ahead.{Within, Reaches, LooksAhead, Lays};
 
 // The frames of the first two kept anchors at or after each boundary, and the first one's row.
 pub struct Ahead {
@@ -61,4 +62,42 @@ pub fn stage_ahead(mask: &[u8], anchors: &[u32], first_row: u32, bounds: &[u32])
     let rows = kept.rows;
     let at = places(&frames, bounds);
     look_ahead(&frames, &rows, &at, bounds.len())
+}
+
+// The entries of a list at `n` places.
+pub fn pick(list: &[u32], places: &[u32], n: usize, out: &mut [u32])
+    requires { ⌜ Reaches (now places) n (length (now list)) × (n ≤ length (now out)) ⌝ }
+    ensures { λ _. ⌜ now (out .exit) ≡ written (λ j. getD (now (list .entry)) (getD (now (places .entry)) j 0) 0) n (now (out .entry)) ⌝ }
+{
+    let mut j = 0;
+    while j < n {
+        let at = places[j] as usize;
+        out[j] = list[at];
+        j += 1;
+    }
+}
+
+fn copy(list: &[u32], out: &mut [u32])
+    requires { ⌜ length (now list) ≤ length (now out) ⌝ }
+    ensures { λ _. ⌜ now (out .exit) ≡ written (λ j. getD (now (list .entry)) j 0) (length (now (list .entry))) (now (out .entry)) ⌝ }
+{
+    let mut j = 0;
+    while j < list.len() {
+        out[j] = list[j];
+        j += 1;
+    }
+}
+
+// The boundaries, the frames of the first two kept anchors at or after each, and the first one's row: from the place of each
+// boundary among the kept anchors.
+pub fn lay_ahead(frames: &[u32], rows: &[u32], places: &[u32], bounds: &[u32], words: &mut [u32])
+    requires { ⌜ Within (now frames) (now rows) (now places) (length (now bounds)) × (0 < length (now frames)) × (length (now bounds) ≤ most) × (length (now words) ≡ 4 * most) ⌝ }
+    ensures { λ _. ⌜ Lays (now (frames .entry)) (now (rows .entry)) (now (places .entry)) (now (bounds .entry)) (now (words .exit)) ⌝ }
+{
+    let n = bounds.len();
+    clear_words(words);
+    copy(bounds, &mut words[0..64]);
+    pick(frames, places, n, &mut words[64..128]);
+    pick(&frames[1..], places, n, &mut words[128..192]);
+    pick(rows, places, n, &mut words[192..256]);
 }

@@ -2,15 +2,16 @@
 
 ghost use mathlib.Core.Path.{_≡_};
 ghost use Prim.Native.Nat.{_+_, _<_, _≤_, _^_};
-ghost use lib.ListN.{length};
+ghost use lib.ListN.{length, replicate};
 ghost use Rattle.paths.specs.Frames.{Increasing, within as isWithin};
 ghost use Rattle.paths.specs.Anchors.{keptIn};
 ghost use Rattle.paths.specs.Passes.{nonEmpty};
-ghost use Rattle.stages.specs.Room.{most, edges};
-ghost use Rattle.stages.specs.Listed.{tableOf};
+ghost use Rattle.stages.specs.Room.{most, edges, room};
+ghost use Rattle.stages.specs.Listed.{tableOf, written};
 ghost use Rattle.stages.specs.Tables.{beyond};
 ghost use Rattle.stages.specs.Kept.{Keeps};
-ghost use Rattle.stages.specs.Places.{Climbs, countBelow, placeBefore};
+ghost use Rattle.stages.specs.Places.{Climbs, countBelow, placeBefore, Placed};
+ghost use Rattle.stages.specs.Parts.{Fit, FitList};
 
 // A frame that no boundary passes.
 pub const BEYOND: u32 = 4294967295;
@@ -95,4 +96,65 @@ pub fn places(frames: &[u32], bounds: &[u32]) -> [usize; 65]
     }
     places[j] = advance(frames, place, BEYOND);
     places
+}
+
+// The anchors within the mask, in fresh arrays: their frames, then `BEYOND`, and their score rows. A dropped one leaves its row
+// unused. The answer is how many there are.
+pub fn keep_anchors(
+    mask: &[u8],
+    anchors: &[u32],
+    first_row: u32,
+    frames: &mut [u32],
+    rows: &mut [u32],
+) -> usize
+    requires { ⌜ (length (now anchors) ≤ most) × («first_row» + length (now anchors) < 2 ^ 32) ⌝ }
+    requires { ⌜ (now frames ≡ replicate room beyond) × (now rows ≡ replicate room 0) ⌝ }
+    ensures { λ r. ⌜ Keeps (keptIn (now (mask .entry)) «first_row» (now (anchors .entry))) r (now (frames .exit)) (now (rows .exit)) ⌝ }
+{
+    let mut count: usize = 0;
+    let mut i = 0;
+    while i < anchors.len() {
+        let frame = anchors[i];
+        if within(mask, frame) {
+            frames[count] = frame;
+            rows[count] = first_row + (i as u32);
+            count += 1;
+        }
+        i += 1;
+    }
+    count
+}
+
+// For each boundary, how many of the frames are below it; at last how many there are.
+fn place_boundaries(frames: &[u32], bounds: &[u32], places: &mut [u32])
+    requires { ⌜ Climbs 0 beyond (now frames) × (countBelow (now frames) beyond < length (now frames)) × (length (now frames) < 2 ^ 32) ⌝ }
+    requires { ⌜ (length (now bounds) < length (now places)) × Increasing (now bounds) ⌝ }
+    ensures { λ _. ⌜ now (places .exit) ≡ written (placeBefore (now (frames .entry)) (now (bounds .entry))) (length (now (bounds .entry)) + 1) (now (places .entry)) ⌝ }
+{
+    let mut place = 0;
+    let mut j = 0;
+    while j < bounds.len() {
+        place = advance(frames, place, bounds[j]);
+        places[j] = place as u32;
+        j += 1;
+    }
+    places[j] = advance(frames, place, BEYOND) as u32;
+}
+
+// The kept anchors, and the place of each boundary among them, in fresh arrays.
+pub fn place_anchors(
+    mask: &[u8],
+    anchors: &[u32],
+    first_row: u32,
+    bounds: &[u32],
+    frames: &mut [u32],
+    rows: &mut [u32],
+    places: &mut [u32],
+)
+    requires { ⌜ Fit (now mask) (now bounds) × FitList (now anchors) × («first_row» + length (now anchors) < 2 ^ 32) ⌝ }
+    requires { ⌜ (now frames ≡ replicate room beyond) × (now rows ≡ replicate room 0) × (now places ≡ replicate edges 0) ⌝ }
+    ensures { λ _. ⌜ Placed (keptIn (now (mask .entry)) «first_row» (now (anchors .entry))) (now (bounds .entry)) (now (frames .exit)) (now (rows .exit)) (now (places .exit)) ⌝ }
+{
+    keep_anchors(mask, anchors, first_row, frames, rows);
+    place_boundaries(frames, bounds, places);
 }

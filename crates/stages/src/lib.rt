@@ -1,7 +1,8 @@
 // The tables of a stage that the search reads, made once for a record and stage, after `Stage` and `Filler` of closed.rs.
 
-mod ahead;
+pub mod ahead;
 pub mod anchors;
+pub mod clear;
 mod counts;
-mod filler;
+pub mod filler;
 pub mod tables;

@@ -1,0 +1,100 @@
+-- Tables that stand one after the other in a lent list: a part is lent on, filled, and put back in its place.
+use Prim.Native.Nat.{ℕ, zero, suc, _+_, _-_, _*_, _≤_, _<_}
+use mathlib.Core.Path.{_≡_, refl, sym, ap, ap₂, _∙_}
+use mathlib.Core.List.{List, _∷_, _++_, append-assoc}
+use native.Mathlib.Omega.{arith}
+use lib.ListN.{length, getD, length-drop, take, drop, replicate, length-append, length-replicate}
+use lib.Seq.{length-take-le, take-all, getD-drop, take-at, drop-at, take-take, take-add, drop-drop}
+use borrow.Rule.Slice.PartMut.{postOf, putMid, take-put, same-len-mid}
+use Rattle.stages.specs.Room.{most}
+use Rattle.stages.specs.Listed.{tableOf, written}
+use Rattle.stages.specs.Tables.{tableAt}
+use Rattle.stages.proofs.Listed.{drop-replicate, written-table, length-table}
+use Rattle.stages.proofs.Places.{either}
+
+module _ {A : Type 0} where
+  take-replicate : (n size : ℕ) (x : A) → n ≤ size → take n (replicate size x) ≡ replicate n x
+  take-replicate zero size x h = refl
+  take-replicate (suc n) zero x h = absurd (none h)
+    where
+      none : suc n ≤ 0 → ⊥
+      none h = omega arith
+  take-replicate (suc n) (suc size) x h = ap (λ (l : List A). x ∷ l) (take-replicate n size x (omega arith))
+
+  -- What stands in a list whose k entries from a on were put back as p: there p,
+  pub put-here : (a k : ℕ) (l p : List A) → a ≤ length l → length p ≡ k → take k (drop a (putMid a k l p)) ≡ p
+  put-here a k l p h e =
+      ap (take k) (drop-at (take a l) (p ++ postOf a k l) a (length-take-le a l h)) ∙ take-at p (postOf a k l) k e
+
+  -- and elsewhere what stood there.
+  pub put-before : (a k b m : ℕ) (l p : List A) → b + m ≤ a → a ≤ length l → take m (drop b (putMid a k l p)) ≡ take m (drop b l)
+  put-before a k b m l p h g =
+      front (putMid a k l p) (omega (arith, length-append (take a l) (p ++ postOf a k l), length-take-le a l g))
+      ∙ ap (λ (x : List A). drop b (take (b + m) x)) (take-put a k l p g) ∙ sym (front l (omega arith))
+    where
+      front : (x : List A) → b ≤ length x → take m (drop b x) ≡ drop b (take (b + m) (take a x))
+      front x f =
+          sym (ap (drop b) (take-take (b + m) a x h ∙ take-add b m x) ∙ drop-at (take b x) (take m (drop b x)) b (length-take-le b x f))
+
+  pub put-after : (a k b m : ℕ) (l p : List A) → a + k ≤ b → a + k ≤ length l → length p ≡ k → take m (drop b (putMid a k l p)) ≡ take m (drop b l)
+  put-after a k b m l p h g e = ap (take m) (back (putMid a k l p) ∙ ap (drop (b - (a + k))) rest ∙ sym (back l))
+    where
+      back : (x : List A) → drop b x ≡ drop (b - (a + k)) (drop (a + k) x)
+      back x = let whole : b ≡ a + k + (b - (a + k)) = omega arith in ap (λ (n : ℕ). drop n x) whole ∙ sym (drop-drop (b - (a + k)) (a + k) x)
+
+      rest : drop (a + k) (putMid a k l p) ≡ drop (a + k) l
+      rest =
+          ap (drop (a + k)) (sym (append-assoc (take a l) p (postOf a k l)))
+          ∙ drop-at (take a l ++ p) (postOf a k l) (a + k) (length-append (take a l) p ∙ ap₂ _+_ (length-take-le a l (omega arith)) e)
+          ∙ drop-drop k a l
+
+  -- a part that goes to the list's end
+  pub rest-length : (a : ℕ) (l : List A) → length (take (length l - a) (drop a l)) ≡ length l - a
+  rest-length a l = length-take-le (length l - a) (drop a l) (omega (arith, length-drop a l))
+
+  pub rest-at : (a : ℕ) (l : List A) (i : ℕ) (d : A) → getD (take (length l - a) (drop a l)) i d ≡ getD l (a + i) d
+  rest-at a l i d =
+      ap (λ (rest : List A). getD rest i d) (take-all (length l - a) (drop a l) (omega (arith, length-drop a l))) ∙ getD-drop a l i d
+
+-- A list of m tables of which k are laid, while the others hold the spare value only.
+pub record Laying {A : Type 0} (spare : A) (m : ℕ) (table : ℕ → List A) (k : ℕ) (l : List A) : Type 0 where
+  pub long : length l ≡ m * most
+  pub laid : (j : ℕ) → j < k → tableAt j l ≡ table j
+  pub fresh : (j : ℕ) → k ≤ j → j < m → tableAt j l ≡ replicate most spare
+
+module _ {A : Type 0} {spare : A} {m : ℕ} {table : ℕ → List A} where
+  pub laying-none : {l : List A} {size : ℕ} → l ≡ replicate size spare → size ≡ m * most → Laying spare m table 0 l
+  laying-none {l} {size} e s = record {
+    long = ap length e ∙ length-replicate size spare ∙ s;
+    laid = λ j h. absurd (none j h);
+    fresh = λ j _ h.
+        ap (tableAt j) e ∙ ap (take most) (drop-replicate (j * most) size spare)
+        ∙ take-replicate most (size - j * most) spare (omega arith);
+  }
+    where
+      none : (j : ℕ) → j < 0 → ⊥
+      none j h = omega arith
+
+  pub laying-long : {k : ℕ} {l : List A} → Laying spare m table k l → k < m → length (tableAt k l) ≡ most
+  laying-long {k} {l} laying h = ap length (laying .fresh k (omega arith) h) ∙ length-replicate most spare
+
+  pub laying-next : {k n : ℕ} {l out : List A} (g : ℕ → A) → Laying spare m table k l → k < m → n ≤ most
+      → out ≡ written g n (tableAt k l) → tableOf g n most spare ≡ table k → Laying spare m table (k + 1) (putMid (k * most) most l out)
+  laying-next {k} {n} {l} {out} g laying h few e is = record {
+    long = same-len-mid (k * most) most l out (ap length filled ∙ length-table g n most spare few ∙ sym (laying-long laying h))
+        ∙ laying .long;
+    laid = λ j before. either j k
+        (λ less. put-before (k * most) most (j * most) most l out (omega arith) (omega (arith, laying .long)) ∙ laying .laid j less)
+        (λ more.
+        let here : j ≡ k = omega arith in
+        ap (λ (i : ℕ). tableAt i (putMid (k * most) most l out)) here
+        ∙ put-here (k * most) most l out (omega (arith, laying .long)) full ∙ filled ∙ is ∙ ap table (sym here));
+    fresh = λ j after within.
+        put-after (k * most) most (j * most) most l out (omega arith) (omega (arith, laying .long)) full ∙ laying .fresh j (omega arith) within;
+  }
+    where
+      filled : out ≡ tableOf g n most spare
+      filled = e ∙ ap (written g n) (laying .fresh k (omega arith) h) ∙ written-table g n most spare
+
+      full : length out ≡ most
+      full = ap length filled ∙ length-table g n most spare few
