@@ -7,7 +7,7 @@ use native.Mathlib.Omega.{arith}
 use native.Mathlib.Numerals.{add-one}
 use native.Mathlib.Nat.{sub-zero}
 use lib.Dec.{T, ltb, ltb→lt, nltb→le}
-use lib.ListN.{length, getD, take, drop, set, replicate, length-append, length-drop, length-replicate, getD-replicate, length-set, List·getD-append}
+use lib.ListN.{length, getD, take, drop, set, replicate, length-append, length-drop, length-replicate, getD-replicate, length-set, List·getD-append, drop-of-length-le}
 use lib.Seq.{set-append-seam, getD-append-add, getD-append-seam, drop-cons, drop-length, set-at, ext-getD}
 use Rattle.stages.specs.Listed.{padded, listed, tableOf, written}
 
@@ -119,6 +119,17 @@ module _ {A : Type 0} where
           (λ i h.
           let less : i < n = omega (arith, length-listed (λ (_ : ℕ). spare) n) in
           listed-at (λ _. spare) n spare i less ∙ sym (getD-replicate n i spare spare less))
+
+  pub written-at : (f : ℕ → A) (n : ℕ) (old : List A) (d : A) (i : ℕ) → i < n → getD (written f n old) i d ≡ f i
+  written-at f n old d i h = List·getD-append (listed f n) (drop n old) d i (omega (arith, length-listed f n)) ∙ listed-at f n d i h
+
+  -- what is written over the whole list is a table with no spare entry
+  pub written-full : (f : ℕ → A) (n : ℕ) (spare : A) (old : List A) → length old ≡ n → written f n old ≡ tableOf f n n spare
+  unfolding padded
+  written-full f n spare old e =
+      let short : length old ≤ n = omega arith in
+      let none : 0 ≡ n - length (listed f n) = omega (arith, length-listed f n) in
+      ap (λ (ys : List A). listed f n ++ ys) (drop-of-length-le old short ∙ ap (λ (m : ℕ). replicate m spare) none)
 
   pub length-written : (f : ℕ → A) (n : ℕ) (old : List A) → n ≤ length old → length (written f n old) ≡ length old
   length-written f n old h = length-append (listed f n) (drop n old) ∙ omega (arith, length-listed f n, length-drop n old)

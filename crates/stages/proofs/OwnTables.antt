@@ -1,10 +1,10 @@
 -- The tables made of a phrase's parts are those of its stage.
-use Prim.Native.Nat.{ℕ, suc, _+_, _-_, _≤_, _<_}
+use Prim.Native.Nat.{ℕ, suc, _+_, _-_, _*_, _≤_, _<_}
 use mathlib.Core.Path.{_≡_, refl, sym, ap, ap₂, subst, _∙_}
 use mathlib.Core.List.{List}
 use native.Mathlib.Omega.{arith}
 use native.Mathlib.Numerals.{add-one}
-use lib.ListN.{length, getD}
+use lib.ListN.{length, getD, take, drop}
 use lib.Ieee.{Float, nan, neg}
 use Rattle.phrase.specs.declared.costs.Costs.{Costs}
 use Rattle.phrase.specs.Phrase.{Phrase, Stage}
@@ -17,10 +17,11 @@ use Rattle.paths.specs.LookAhead.{firstAhead, secondAhead, rowAhead}
 use Rattle.paths.specs.StageProblem.{cost, boundary}
 use Rattle.stages.specs.Room.{most}
 use Rattle.stages.specs.declared.tables.StageTables.{StageTables}
-use Rattle.stages.specs.Tables.{beyond, Tabled}
+use Rattle.stages.specs.Tables.{beyond, Tabled, tableAt, tablesIn}
 use Rattle.stages.specs.Edges.{edge}
 use Rattle.stages.specs.Filler.{noCost}
-use Rattle.stages.specs.Parts.{costOf}
+use Rattle.stages.specs.Parts.{costOf, Fills, Sees}
+use Rattle.stages.specs.Listed.{tableOf}
 use Rattle.stages.specs.Made.{PartsOf, tablesOf, Made}
 use Rattle.stages.proofs.Listed.{table-at}
 use Rattle.stages.proofs.Edges.{edge-in}
@@ -77,6 +78,29 @@ made mask nuclei anchors firstRow bounds duration costs t e = record {
   exact = e;
   tabled = λ phrase stage parts. subst (Tabled phrase stage) (sym e) (tables-of mask nuclei anchors firstRow bounds duration costs phrase stage parts);
 }
+
+-- The tables that stand in two lists.
+pub laid : (mask nuclei anchors : List ℕ) (firstRow : ℕ) (bounds : List ℕ) (duration : List Float) (costs : Costs) (words : List ℕ) (figures : List Float)
+    → tableAt 0 words ≡ tableOf (λ j. getD bounds j 0) (length bounds) most 0
+    → Sees (keptIn mask firstRow anchors) bounds (tableAt 1 words) (tableAt 2 words) (tableAt 3 words)
+    → Fills costs mask (keptIn mask 0 nuclei) bounds (tableAt 0 figures) (tableAt 1 figures) (tableAt 2 figures)
+    → take 75 (drop (3 * most) figures) ≡ duration
+    → Made mask nuclei anchors firstRow bounds duration costs (tablesIn (length bounds) words figures)
+unfolding tablesOf
+laid mask nuclei anchors firstRow bounds duration costs words figures bounded sees fills timed =
+    made mask nuclei anchors firstRow bounds duration costs (tablesIn (length bounds) words figures)
+    (λ i.
+    record {
+      size = length bounds;
+      bounds = bounded i;
+      start = fills .started i;
+      gap = fills .gapped i;
+      stop = fills .stopped i;
+      first = sees .firsts i;
+      second = sees .seconds i;
+      row = sees .ranks i;
+      duration = timed i;
+    })
 
 -- what `has_nucleus` answers, of a phrase with this mask and these nuclei
 pub nucleus-of : (phrase : Phrase) → phrase .nuclei .firstRow ≡ 0

@@ -1,10 +1,10 @@
 -- Tables that stand one after the other in a lent list: a part is lent on, filled, and put back in its place.
 use Prim.Native.Nat.{ℕ, zero, suc, _+_, _-_, _*_, _≤_, _<_}
 use mathlib.Core.Path.{_≡_, refl, sym, ap, ap₂, _∙_}
-use mathlib.Core.List.{List, _∷_, _++_, append-assoc}
+use mathlib.Core.List.{List, [], _∷_, _++_, append-assoc, append-nil}
 use native.Mathlib.Omega.{arith}
-use lib.ListN.{length, getD, length-drop, take, drop, replicate, length-append, length-replicate}
-use lib.Seq.{length-take-le, take-all, getD-drop, take-at, drop-at, take-take, take-add, drop-drop}
+use lib.ListN.{length, getD, length-drop, take, drop, replicate, length-append, length-replicate, drop-of-length-le}
+use lib.Seq.{length-take-le, take-all, getD-drop, take-at, drop-at, take-take, take-add, drop-drop, take-append-le, drop-append-le, drop-append-add}
 use borrow.Rule.Slice.PartMut.{postOf, putMid, take-put, same-len-mid}
 use Rattle.stages.specs.Room.{most}
 use Rattle.stages.specs.Listed.{tableOf, written}
@@ -55,6 +55,27 @@ module _ {A : Type 0} where
   pub rest-at : (a : ℕ) (l : List A) (i : ℕ) (d : A) → getD (take (length l - a) (drop a l)) i d ≡ getD l (a + i) d
   rest-at a l i d =
       ap (λ (rest : List A). getD rest i d) (take-all (length l - a) (drop a l) (omega (arith, length-drop a l))) ∙ getD-drop a l i d
+
+-- A list of which first the front was lent and put back, and then the rest.
+module _ {A : Type 0} (a k : ℕ) (l p q : List A) (long : length l ≡ a + k) (first : length p ≡ a) (second : length q ≡ k) where
+  both-is : putMid a k (p ++ drop a l) q ≡ p ++ q
+  both-is =
+      let short : length (drop a l) ≤ k = omega (arith, length-drop a l) in
+      let none : drop k (drop a (p ++ drop a l)) ≡ [] = ap (drop k) (drop-at p (drop a l) a first) ∙ drop-of-length-le (drop a l) short in
+      ap₂ (λ (xs ys : List A). xs ++ (q ++ ys)) (take-at p (drop a l) a first) none ∙ ap (λ (ys : List A). p ++ ys) (append-nil q)
+
+  pub both-long : length (putMid a k (p ++ drop a l) q) ≡ a + k
+  both-long = ap length both-is ∙ length-append p q ∙ ap₂ _+_ first second
+
+  pub in-front : (c m : ℕ) → c + m ≤ a → take m (drop c (putMid a k (p ++ drop a l) q)) ≡ take m (drop c p)
+  in-front c m h =
+      ap (λ (x : List A). take m (drop c x)) both-is ∙ ap (take m) (drop-append-le c p q (omega arith))
+      ∙ take-append-le m (drop c p) q (omega (arith, length-drop c p))
+
+  pub in-rest : (c m : ℕ) → take m (drop (a + c) (putMid a k (p ++ drop a l) q)) ≡ take m (drop c q)
+  in-rest c m =
+      ap (λ (x : List A). take m (drop (a + c) x)) both-is ∙ ap (λ (n : ℕ). take m (drop (n + c) (p ++ q))) (sym first)
+      ∙ ap (take m) (drop-append-add p q c)
 
 -- A list of m tables of which k are laid, while the others hold the spare value only.
 pub record Laying {A : Type 0} (spare : A) (m : ℕ) (table : ℕ → List A) (k : ℕ) (l : List A) : Type 0 where
