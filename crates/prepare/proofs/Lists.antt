@@ -3,7 +3,7 @@ use Prim.Native.Nat.{ℕ, zero, suc, _-_, _≤_}
 use mathlib.Core.Path.{_≡_, sym, ap, _∙_}
 use mathlib.Core.List.{List, _++_}
 use native.Mathlib.Omega.{arith}
-use lib.ListN.{length, take, drop, replicate}
+use lib.ListN.{length, take, drop, replicate, length-append}
 use lib.Seq.{take-append-seam}
 use Rattle.stages.specs.Listed.{padded}
 use Rattle.stages.proofs.Listed.{length-padded}
@@ -39,3 +39,15 @@ module _ {xs : List ℕ} {l : Listed} (lists : Lists xs l) where
 
   pub front-counted : l .count ≡ length (take (l .count) (l .frames))
   front-counted = lists .counted ∙ ap length (sym its-front)
+
+-- A list that was copied over the front of an array.
+module _ {xs old new : List ℕ} {count : ℕ} (copied : Copied xs old new count) where
+  pub copied-front : take count new ≡ xs
+  copied-front =
+      ap (λ (n : ℕ). take n new) (copied .counted) ∙ ap (take (length xs)) (copied .buffer) ∙ take-append-seam xs (drop (length xs) old)
+
+  pub copied-counted : count ≡ length (take count new)
+  copied-counted = copied .counted ∙ ap length (sym copied-front)
+
+  pub copied-within : count ≤ length new
+  copied-within = omega (arith, copied .counted, ap length (copied .buffer) ∙ length-append xs (drop (length xs) old))

@@ -8,8 +8,13 @@ use lib.Ieee.{Float, nan}
 use Rattle.phrase.specs.declared.costs.Costs.{Costs}
 use Rattle.phrase.specs.Phrase.{Phrase}
 use Rattle.paths.specs.Units.{shortestUnit}
-use Rattle.stages.specs.Parts.{Fit, FitList}
+use Rattle.stages.specs.Parts.{Fit, FitList, Fills}
 use Rattle.stages.specs.Filler.{noCost}
+use Rattle.stages.specs.Room.{most}
+use Rattle.stages.specs.Listed.{tableOf}
+use Rattle.stages.specs.Tables.{beyond, tableAt}
+use Rattle.paths.specs.Anchors.{keptIn}
+use Rattle.paths.specs.LookAhead.{firstAhead}
 use Rattle.stages.specs.Made.{tablesOf, Made}
 use Rattle.stages.specs.declared.tables.StageTables.{StageTables}
 use Rattle.stages.proofs.Listed.{table-at}
@@ -20,7 +25,7 @@ use Rattle.record.specs.declared.layout.Layout.{Layout}
 use Rattle.record.specs.declared.read.Which.{Which}
 use Rattle.record.specs.declared.read.Which.the-variants.{Nuclei, Count}
 use Rattle.record.proofs.Accepted.{fit, meaning, counts}
-use Rattle.prepare.specs.Sides.{firstRowIn, durationsOf, TablesOf}
+use Rattle.prepare.specs.Sides.{firstRowIn, durationsOf, TablesOf, aheadSpan, spanAhead, spanFrom, Worded}
 
 fit-list : (frames : List ℕ) → length frames ≤ 64 → Frames frames → FitList frames
 fit-list frames few fits = record { short = few; ascending = λ i below. fits .rising i (suc i) (omega arith) below }
@@ -61,6 +66,14 @@ module _ {bytes : List ℕ} {at : Layout} (h : Laid bytes at) where
   pub few-nuclei : at .nuclei .count < 2 ^ 32
   few-nuclei = omega (arith, counts h .nuclei)
 
+-- Filler costs by another name of the mask, and by other names of the tables.
+pub fills-moved : (nuclei : List ℕ) {costs : Costs} {mask mask′ bounds : List ℕ} {start gap stop start′ gap′ stop′ : List Float}
+    → mask ≡ mask′ → start′ ≡ start → gap′ ≡ gap → stop′ ≡ stop
+    → Fills costs mask (keptIn mask 0 nuclei) bounds start gap stop → Fills costs mask′ (keptIn mask′ 0 nuclei) bounds start′ gap′ stop′
+fills-moved nuclei {costs} {mask} {mask′} {bounds} {start} {gap} {stop} masked started gapped stopped fills =
+    let there = subst (λ (m : List ℕ). Fills costs m (keptIn m 0 nuclei) bounds start gap stop) masked fills in
+    record { started = started ∙ there .started; gapped = gapped ∙ there .gapped; stopped = stopped ∙ there .stopped }
+
 -- The tables made of these parts are those of the stage.
 module _ {bytes : List ℕ} {at : Layout} (h : Laid bytes at) (which : Which) where
   module _ {mask nuclei anchors bounds : List ℕ} {row : ℕ}
@@ -97,3 +110,18 @@ module _ {bytes : List ℕ} {at : Layout} (h : Laid bytes at) (which : Which) wh
             ∙ table-at (λ i. stage .duration (i + shortestUnit)) 75 75 noCost nan (d - shortestUnit) (omega arith) ∙ ap (stage .duration) e;
       });
     }
+
+    -- and so are the spans ahead
+    pub parts-start : {lo hi : ℕ} {words : List ℕ} → Worded (keptIn mask row anchors) anchors bounds lo hi words
+        → tableAt 4 words ≡ tableOf (λ j. spanFrom (phraseOf bytes) (stageOf which (phraseOf bytes)) lo hi j .start) (length (stageOf which (phraseOf bytes) .boundaries)) most 0
+    unfolding spanAhead
+    parts-start {lo} {hi} worded =
+        worded .starts
+        ∙ (λ i. tableOf (λ j. aheadSpan (anchored i) (bounded i) lo hi (firstAhead beyond (keptIn (masked i) (ranked i) (anchored i)) (getD (bounded i) j 0)) .start) (length (bounded i)) most 0)
+
+    pub parts-end : {lo hi : ℕ} {words : List ℕ} → Worded (keptIn mask row anchors) anchors bounds lo hi words
+        → tableAt 5 words ≡ tableOf (λ j. spanFrom (phraseOf bytes) (stageOf which (phraseOf bytes)) lo hi j .end) (length (stageOf which (phraseOf bytes) .boundaries)) most 0
+    unfolding spanAhead
+    parts-end {lo} {hi} worded =
+        worded .ends
+        ∙ (λ i. tableOf (λ j. aheadSpan (anchored i) (bounded i) lo hi (firstAhead beyond (keptIn (masked i) (ranked i) (anchored i)) (getD (bounded i) j 0)) .end) (length (bounded i)) most 0)

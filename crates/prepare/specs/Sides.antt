@@ -1,5 +1,5 @@
 -- What is prepared of a stage of a phrase for the search of every candidate.
-use Prim.Native.Nat.{ℕ, _+_}
+use Prim.Native.Nat.{ℕ, _+_, _*_}
 use mathlib.Core.Path.{_≡_}
 use mathlib.Core.List.{List}
 use mathlib.Core.Bool.{cond}
@@ -10,11 +10,12 @@ use Rattle.phrase.specs.Phrase.{Phrase, Stage}
 use Rattle.paths.specs.Units.{shortestUnit}
 use Rattle.stages.specs.Listed.{padded, tableOf}
 use Rattle.stages.specs.Filler.{noCost}
-use Rattle.paths.specs.Anchors.{kept}
+use Rattle.paths.specs.Anchors.{Anchor, kept}
 use Rattle.paths.specs.LookAhead.{firstAhead}
 use Rattle.evidence.specs.Spans.{spanOf}
 use Rattle.evidence.specs.declared.evidence.Span.{Span}
 use Rattle.stages.specs.Room.{most}
+use Rattle.stages.specs.Parts.{Sees}
 use Rattle.stages.specs.Tables.{Tabled, beyond, tableAt, tablesIn}
 use Rattle.stages.specs.Made.{tablesOf}
 use Rattle.record.specs.declared.layout.Layout.{Layout}
@@ -47,13 +48,31 @@ pub record SideOf (phrase : Phrase) (stage : Stage) (side : Side) : Type 0 where
   pub tables : TablesOf phrase stage (side .tables)
   pub anchors : Lists (stage .anchors) (side .anchors)
 
--- the span of an anchor ahead among all that the stage lists; where there is none, 0 and 0 stand for it
+-- the span of an anchor ahead by listed anchors and boundaries; where there is none, 0 and 0 stand for it
+abbrev pub aheadSpan : List ℕ → List ℕ → ℕ → ℕ → ℕ → Span
+aheadSpan anchors bounds lo hi ahead = cond (ltb ahead beyond) (spanOf anchors bounds lo hi ahead) (record { start = 0; end = 0 })
+
+-- that of an anchor among all that the stage lists
 unfoldable pub spanAhead : Stage → ℕ → ℕ → ℕ → Span
-spanAhead stage lo hi ahead = cond (ltb ahead beyond) (spanOf (stage .anchors) (stage .boundaries) lo hi ahead) (record { start = 0; end = 0 })
+spanAhead stage lo hi ahead = aheadSpan (stage .anchors) (stage .boundaries) lo hi ahead
 
 -- the span of the first kept anchor at or after boundary j
 abbrev pub spanFrom : Phrase → Stage → ℕ → ℕ → ℕ → Span
 spanFrom phrase stage lo hi j = spanAhead stage lo hi (firstAhead beyond (kept phrase stage) (getD (stage .boundaries) j 0))
+
+-- the tables of the spans ahead, by the places of the boundaries among the kept anchors' frames
+pub record Spans (frames places anchors bounds : List ℕ) (lo hi : ℕ) (words : List ℕ) : Type 0 where
+  pub starts : tableAt 0 words ≡ tableOf (λ j. aheadSpan anchors bounds lo hi (getD frames (getD places j 0) 0) .start) (length bounds) most 0
+  pub ends : tableAt 1 words ≡ tableOf (λ j. aheadSpan anchors bounds lo hi (getD frames (getD places j 0) 0) .end) (length bounds) most 0
+  pub whole : length words ≡ 2 * most
+
+-- the tables of words, of listed and kept anchors and boundaries
+pub record Worded (kept : List Anchor) (anchors bounds : List ℕ) (lo hi : ℕ) (words : List ℕ) : Type 0 where
+  pub bounded : tableAt 0 words ≡ tableOf (λ j. getD bounds j 0) (length bounds) most 0
+  pub sees : Sees kept bounds (tableAt 1 words) (tableAt 2 words) (tableAt 3 words)
+  pub starts : tableAt 4 words ≡ tableOf (λ j. aheadSpan anchors bounds lo hi (firstAhead beyond kept (getD bounds j 0)) .start) (length bounds) most 0
+  pub ends : tableAt 5 words ≡ tableOf (λ j. aheadSpan anchors bounds lo hi (firstAhead beyond kept (getD bounds j 0)) .end) (length bounds) most 0
+  pub whole : length words ≡ 6 * most
 
 -- What is lent of a stage to the search of every candidate, each entry fixed: its tables, and after them the two edges of the span of the
 -- anchor ahead of each boundary.

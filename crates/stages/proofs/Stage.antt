@@ -129,11 +129,15 @@ module _ {mask : List ℕ} {anchors : List Anchor} {frames bounds places : List 
     frame-from : (place : ℕ) → place < room → getD frames place 0 ≡ frameOr beyond (drop place anchors)
     frame-from place h = ap (λ (l : List ℕ). getD l place 0) (p .framed) ∙ figure-from (λ a. a .frame) (frameOr beyond) (λ _ _. refl) anchors room place h
 
+    pub first-at : (j : ℕ) → j < length bounds → getD frames (getD places j 0) 0 ≡ firstAhead beyond anchors (getD bounds j 0)
+    unfolding firstAhead
+    first-at j h = frame-from (getD places j 0) (omega (arith, place-few j h)) ∙ ap (frameOr beyond) (from-place j h)
+
     pub sees : {first second row : List ℕ} → LooksAhead frames rows places (length bounds) first second row → Sees anchors bounds first second row
     unfolding firstAhead secondAhead rowAhead
     sees looks = record {
       firsts = looks .firsts ∙ table-same (λ j. getD frames (getD places j 0) 0) (λ j. firstAhead beyond anchors (getD bounds j 0)) (length bounds) most 0
-          (λ j h. frame-from (getD places j 0) (omega (arith, place-few j h)) ∙ ap (frameOr beyond) (from-place j h));
+          first-at;
       seconds = looks .seconds ∙ table-same (λ j. getD frames (getD places j 0 + 1) 0) (λ j. secondAhead beyond anchors (getD bounds j 0)) (length bounds) most 0
           (λ j h.
           frame-from (getD places j 0 + 1) (omega (arith, place-few j h))
