@@ -48,7 +48,7 @@ pub fn kept_anchors(mask: &[u8], anchors: &[u32], first_row: u32) -> Kept
         let frame = anchors[i];
         if within(mask, frame) {
             frames[count] = frame;
-            rows[count] = first_row + (i as u32);
+            rows[count] = first_row + i as u32;
             count += 1;
         }
         i += 1;

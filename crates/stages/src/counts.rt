@@ -55,7 +55,7 @@ pub fn speech_before(mask: &[u8], bounds: &[u32]) -> [u32; 65]
         from = to;
         j += 1;
     }
-    counts[j] = count + speech_in(mask, from, end);
+    counts[j] = count + (speech_in(mask, from, end));
     counts
 }
 
