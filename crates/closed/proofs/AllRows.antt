@@ -12,7 +12,7 @@ use Rattle.paths.specs.Problem.{Problem}
 use Rattle.paths.specs.Cell.{empty}
 use Rattle.paths.specs.CellRule.{rows}
 use Rattle.paths.specs.Marks.{marks}
-use Rattle.stages.specs.declared.tables.StageTables.{StageTables}
+use Rattle.stages.specs.Tables.{StageTables}
 use Rattle.rows.specs.Rows.{HoldsAt, Same}
 use Rattle.rows.proofs.Cells.{same-refl, same-trans, same-holds}
 use Rattle.closed.specs.Filled.{rowAt, FilledFirst, FilledNext, NextRow}

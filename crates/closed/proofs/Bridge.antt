@@ -21,7 +21,7 @@ use Rattle.paths.proofs.Frames.{increasing-le}
 use Rattle.paths.proofs.Rising.{Rising, kept-rising}
 use Rattle.paths.proofs.LookAhead.{holds-none, holds-more, admits-ahead, score-ahead}
 use Rattle.stages.specs.Room.{most}
-use Rattle.stages.specs.declared.tables.StageTables.{StageTables}
+use Rattle.stages.specs.Tables.{StageTables}
 use Rattle.stages.specs.Tables.{Tabled, beyond}
 use Rattle.closed.specs.Searched.{Agrees, Readable}
 

@@ -8,7 +8,7 @@ use lib.ListN.{length, take, drop, length-drop}
 use lib.Seq.{length-take-le}
 use Rattle.stages.specs.Room.{most}
 use Rattle.stages.specs.Tables.{tablesIn}
-use Rattle.stages.specs.declared.tables.StageTables.{StageTables}
+use Rattle.stages.specs.Tables.{StageTables}
 use Rattle.closed.specs.Asked.{Lent}
 
 pub record Arrays (t : StageTables) : Type 0 where

@@ -25,7 +25,7 @@ use Rattle.record.specs.Conditions.{frameAt}
 use Rattle.record.proofs.Accepted.{fit}
 use Rattle.record.proofs.Below.{length-listed}
 use Rattle.stages.specs.Room.{most}
-use Rattle.stages.specs.declared.tables.StageTables.{StageTables}
+use Rattle.stages.specs.Tables.{StageTables}
 use Rattle.stages.specs.Tables.{Tabled, beyond}
 use Rattle.closed.specs.Searched.{Agrees, Readable, scoreRows}
 use Rattle.closed.specs.Asked.{Candidate, columnsOf, cellsFor, Unused}

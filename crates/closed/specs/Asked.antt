@@ -12,7 +12,7 @@ use Rattle.record.specs.declared.layout.Layout.{Layout}
 use Rattle.record.specs.Accepted.{Laid}
 use Rattle.record.specs.Meaning.{phraseOf}
 use Rattle.record.specs.Reading.{candidateOf}
-use Rattle.stages.specs.declared.tables.StageTables.{StageTables}
+use Rattle.stages.specs.Tables.{StageTables}
 use Rattle.rows.specs.Rows.{Row, Same, first, unfilled}
 use Rattle.closed.specs.Searched.{Agrees}
 use Rattle.closed.specs.Reported.{AllRows}

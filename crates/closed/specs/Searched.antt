@@ -8,7 +8,7 @@ use Rattle.phrase.specs.Phrase.{Phrase}
 use Rattle.paths.specs.declared.passes.Strictness.{Strictness}
 use Rattle.paths.specs.Problem.{Problem}
 use Rattle.stages.specs.Room.{most}
-use Rattle.stages.specs.declared.tables.StageTables.{StageTables}
+use Rattle.stages.specs.Tables.{StageTables}
 use Rattle.rows.specs.Rows.{GapsOf}
 use Rattle.rows.specs.Units.{UnitTables, unitTables, UnitsOf}
 use Rattle.rows.specs.Ends.{StopsOf}

@@ -7,14 +7,12 @@ use native.Mathlib.Omega.{arith}
 use borrow.Author.Tests.{eq-eqb, ne-eqb}
 use lib.Dec.{eqb}
 use lib.Ieee.{Float}
-use lib.ListN.{length, take, drop}
-use lib.Seq.{take-append-seam}
+use lib.ListN.{length}
 use Rattle.phrase.specs.Phrase.{Phrase}
 use Rattle.paths.specs.Anchors.{keptIn}
 use Rattle.paths.specs.Passes.{nonEmpty, hasNucleus}
 use Rattle.record.specs.Meaning.{phraseOf}
 use Rattle.record.specs.Accepted.{Laid}
-use Rattle.record.specs.Reading.{Copied}
 use Rattle.record.specs.declared.layout.Layout.{Layout}
 use Rattle.record.specs.declared.read.Which.the-variants.{Count}
 use Rattle.record.proofs.Below.{length-listed}
@@ -52,10 +50,6 @@ module _ {bytes : List ℕ} {at : Layout} (h : Laid bytes at) where
   pub runs-voiced : {mask nuclei : List ℕ} → mask ≡ phraseOf bytes .mask → nuclei ≡ phraseOf bytes .nuclei .anchors → nonEmpty (keptIn mask 0 nuclei) ≡ hasNucleus (phraseOf bytes)
   unfolding hasNucleus
   runs-voiced masked inserted i = nonEmpty (keptIn (masked i) (sym (nuclei-first h) i) (inserted i))
-
--- the front of a buffer that a list was copied to
-pub copied-front : {xs old new : List ℕ} {count : ℕ} → Copied xs old new count → take count new ≡ xs
-copied-front {xs} {old} {new} copied = ap (λ (n : ℕ). take n new) (copied .counted) ∙ ap (take (length xs)) (copied .buffer) ∙ take-append-seam xs (drop (length xs) old)
 
 -- the lists of both stages, by the edges looked up
 pub lends :

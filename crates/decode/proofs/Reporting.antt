@@ -16,7 +16,7 @@ use Rattle.paths.specs.Anchors.{Anchor, kept}
 use Rattle.paths.specs.LookAhead.{rowAhead}
 use Rattle.paths.specs.StageProblem.{boundary}
 use Rattle.paths.specs.Marks.{Bounds}
-use Rattle.stages.specs.declared.tables.StageTables.{StageTables}
+use Rattle.stages.specs.Tables.{StageTables}
 use Rattle.stages.specs.Tables.{Tabled, beyond, tableAt, tablesIn}
 use Rattle.stages.specs.Listed.{padded, listed, tableOf}
 use Rattle.stages.proofs.Listed.{length-listed, listed-at, padded-in, length-padded, table-at, length-table}

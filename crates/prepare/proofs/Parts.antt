@@ -12,11 +12,10 @@ use Rattle.stages.specs.Parts.{Fit, FitList, Fills}
 use Rattle.stages.specs.Filler.{noCost}
 use Rattle.stages.specs.Room.{most}
 use Rattle.stages.specs.Listed.{tableOf}
-use Rattle.stages.specs.Tables.{beyond, tableAt}
+use Rattle.stages.specs.Tables.{StageTables, beyond, tableAt}
 use Rattle.paths.specs.Anchors.{keptIn}
 use Rattle.paths.specs.LookAhead.{firstAhead}
 use Rattle.stages.specs.Made.{tablesOf, Made}
-use Rattle.stages.specs.declared.tables.StageTables.{StageTables}
 use Rattle.stages.proofs.Listed.{table-at}
 use Rattle.record.specs.Meaning.{phraseAt, phraseOf}
 use Rattle.record.specs.Accepted.{Laid, Frames}

@@ -1,4 +1,3 @@
 // What is made once for an accepted record and stage, for the search of every candidate.
 
-pub mod side;
 pub mod stage;

@@ -16,8 +16,7 @@ use Rattle.paths.specs.Units.{shortestUnit, longestUnit}
 use Rattle.paths.specs.LookAhead.{firstAhead, secondAhead, rowAhead}
 use Rattle.paths.specs.StageProblem.{cost, boundary}
 use Rattle.stages.specs.Room.{most}
-use Rattle.stages.specs.declared.tables.StageTables.{StageTables}
-use Rattle.stages.specs.Tables.{beyond, Tabled, tableAt, tablesIn}
+use Rattle.stages.specs.Tables.{StageTables, beyond, Tabled, tableAt, tablesIn}
 use Rattle.stages.specs.Edges.{edge}
 use Rattle.stages.specs.Filler.{noCost}
 use Rattle.stages.specs.Parts.{costOf, Fills, Sees}

@@ -149,16 +149,6 @@ module _ {mask : List ℕ} {anchors : List Anchor} {frames bounds places : List 
           ∙ ap (rowOr 0) (from-place j h));
     }
 
-  pub all-few : getD places (length bounds) 0 < 2 ^ 32
-  all-few =
-      omega (
-        arith,
-        table-place (length bounds) (omega arith),
-        edge-end bounds beyond,
-        place-le (p .orderly) (p .framed) (edge bounds beyond (length bounds)) (omega (arith, edge-end bounds beyond)),
-        p .orderly .few,
-      )
-
   -- The filler costs by the counts.
   module _ {speech : List ℕ} (counted : speech ≡ tableOf (speechBefore mask bounds) (length bounds + 1) edges 0) where
     speech-at : (j : ℕ) → j ≤ length bounds → getD speech j 0 ≡ speechIn mask 0 (edge bounds (length mask) j)

@@ -10,8 +10,7 @@ use Rattle.paths.specs.Anchors.{keptIn}
 use Rattle.paths.specs.Units.{shortestUnit, longestUnit}
 use Rattle.paths.specs.LookAhead.{firstAhead, secondAhead, rowAhead}
 use Rattle.stages.specs.Room.{most}
-use Rattle.stages.specs.declared.tables.StageTables.{StageTables}
-use Rattle.stages.specs.Tables.{beyond, Tabled}
+use Rattle.stages.specs.Tables.{StageTables, beyond, Tabled}
 use Rattle.stages.specs.Listed.{tableOf}
 use Rattle.stages.specs.Edges.{edge}
 use Rattle.stages.specs.Filler.{noCost}

@@ -10,11 +10,24 @@ use Rattle.paths.specs.Units.{shortestUnit, longestUnit}
 use Rattle.paths.specs.LookAhead.{firstAhead, secondAhead, rowAhead}
 use Rattle.paths.specs.StageProblem.{cost, boundary}
 use Rattle.stages.specs.Room.{most}
-use Rattle.stages.specs.declared.tables.StageTables.{StageTables}
 
 -- a frame that no boundary passes, where there is no anchor ahead
 abbrev pub beyond : ℕ
 beyond = 4294967295
+
+-- For each boundary its frame; the filler costs of the start (negated), of the gap to the next boundary and of the end; the frames of the
+-- first two kept anchors at or after it, and the first one's score row. Entries from `size` on mean nothing. Durations go by a unit's
+-- length, from the shortest on.
+pub record StageTables : Type 0 where
+  pub size : ℕ
+  pub bounds : List ℕ
+  pub start : List Float
+  pub gap : List Float
+  pub stop : List Float
+  pub first : List ℕ
+  pub second : List ℕ
+  pub row : List ℕ
+  pub duration : List Float
 
 pub record Tabled (phrase : Phrase) (stage : Stage) (t : StageTables) : Type 0 where
   pub sized : t .size ≡ length (stage .boundaries)

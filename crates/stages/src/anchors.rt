@@ -7,7 +7,7 @@ ghost use Rattle.paths.specs.Frames.{Increasing, within as isWithin};
 ghost use Rattle.paths.specs.Anchors.{keptIn};
 ghost use Rattle.paths.specs.Passes.{nonEmpty};
 ghost use Rattle.stages.specs.Room.{most, edges, room};
-ghost use Rattle.stages.specs.Listed.{tableOf, written};
+ghost use Rattle.stages.specs.Listed.{written};
 ghost use Rattle.stages.specs.Tables.{beyond};
 ghost use Rattle.stages.specs.Kept.{Keeps};
 ghost use Rattle.stages.specs.Places.{Climbs, countBelow, placeBefore, Placed};
@@ -15,13 +15,6 @@ ghost use Rattle.stages.specs.Parts.{Fit, FitList};
 
 // A frame that no boundary passes.
 pub const BEYOND: u32 = 4294967295;
-
-// Kept anchors in order: their frames, then `BEYOND`, and their score rows.
-pub struct Kept {
-    pub count: usize,
-    pub frames: [u32; 66],
-    pub rows: [u32; 66],
-}
 
 // Whether a frame is within the mask.
 pub fn within(mask: &[u8], frame: u32) -> bool
@@ -33,69 +26,6 @@ pub fn within(mask: &[u8], frame: u32) -> bool
     } else {
         false
     }
-}
-
-// The anchors within the mask. A dropped one leaves its row unused.
-pub fn kept_anchors(mask: &[u8], anchors: &[u32], first_row: u32) -> Kept
-    requires { ⌜ (length (now anchors) ≤ most) × («first_row» + length (now anchors) < 2 ^ 32) ⌝ }
-    ensures { λ r. ⌜ Keeps (keptIn (now (mask .entry)) «first_row» (now (anchors .entry))) (r .count) (r .frames) (r .rows) ⌝ }
-{
-    let mut frames = [BEYOND; 66];
-    let mut rows = [0u32; 66];
-    let mut count: usize = 0;
-    let mut i = 0;
-    while i < anchors.len() {
-        let frame = anchors[i];
-        if within(mask, frame) {
-            frames[count] = frame;
-            rows[count] = first_row + (i as u32);
-            count += 1;
-        }
-        i += 1;
-    }
-    Kept {
-        count,
-        frames,
-        rows,
-    }
-}
-
-// Whether a nucleus is within the mask.
-pub fn has_nucleus(mask: &[u8], nuclei: &[u32]) -> bool
-    requires { ⌜ length (now nuclei) ≤ most ⌝ }
-    ensures { λ r. ⌜ r ≡ nonEmpty (keptIn (now (mask .entry)) 0 (now (nuclei .entry))) ⌝ }
-{
-    let kept = kept_anchors(mask, nuclei, 0);
-    kept.count != 0
-}
-
-// How many frames are below a bound, where the first `from` of them are known to be. The last frame is never below it.
-fn advance(frames: &[u32], from: usize, bound: u32) -> usize
-    requires { ⌜ Climbs 0 beyond (now frames) × (from ≤ countBelow (now frames) bound) × (countBelow (now frames) bound < length (now frames)) ⌝ }
-    ensures { λ r. ⌜ r ≡ countBelow (now (frames .entry)) bound ⌝ }
-{
-    let mut at = from;
-    while frames[at] < bound {
-        at += 1;
-    }
-    at
-}
-
-// For each boundary, how many of the frames are below it; at last how many there are.
-pub fn places(frames: &[u32], bounds: &[u32]) -> [usize; 65]
-    requires { ⌜ Climbs 0 beyond (now frames) × (countBelow (now frames) beyond < length (now frames)) × (length (now bounds) ≤ most) × Increasing (now bounds) ⌝ }
-    ensures { λ r. ⌜ r ≡ tableOf (placeBefore (now (frames .entry)) (now (bounds .entry))) (length (now (bounds .entry)) + 1) edges 0 ⌝ }
-{
-    let mut places = [0usize; 65];
-    let mut place = 0;
-    let mut j = 0;
-    while j < bounds.len() {
-        place = advance(frames, place, bounds[j]);
-        places[j] = place;
-        j += 1;
-    }
-    places[j] = advance(frames, place, BEYOND);
-    places
 }
 
 // The anchors within the mask, in fresh arrays: their frames, then `BEYOND`, and their score rows. A dropped one leaves its row
@@ -123,6 +53,28 @@ pub fn keep_anchors(
         i += 1;
     }
     count
+}
+
+// Whether a nucleus is within the mask.
+pub fn has_nucleus(mask: &[u8], nuclei: &[u32]) -> bool
+    requires { ⌜ length (now nuclei) ≤ most ⌝ }
+    ensures { λ r. ⌜ r ≡ nonEmpty (keptIn (now (mask .entry)) 0 (now (nuclei .entry))) ⌝ }
+{
+    let mut frames = [BEYOND; 66];
+    let mut rows = [0u32; 66];
+    keep_anchors(mask, nuclei, 0, &mut frames, &mut rows) != 0
+}
+
+// How many frames are below a bound, where the first `from` of them are known to be. The last frame is never below it.
+fn advance(frames: &[u32], from: usize, bound: u32) -> usize
+    requires { ⌜ Climbs 0 beyond (now frames) × (from ≤ countBelow (now frames) bound) × (countBelow (now frames) bound < length (now frames)) ⌝ }
+    ensures { λ r. ⌜ r ≡ countBelow (now (frames .entry)) bound ⌝ }
+{
+    let mut at = from;
+    while frames[at] < bound {
+        at += 1;
+    }
+    at
 }
 
 // For each boundary, how many of the frames are below it; at last how many there are.

@@ -4,8 +4,8 @@ ghost use mathlib.Core.Path.{_≡_};
 ghost use Prim.Native.Nat.{_+_, _<_, _≤_, _^_, min};
 ghost use lib.ListN.{length};
 ghost use Rattle.paths.specs.Frames.{Increasing, weight as weightOf, speechIn};
-ghost use Rattle.stages.specs.Room.{most, edges};
-ghost use Rattle.stages.specs.Listed.{tableOf, written};
+ghost use Rattle.stages.specs.Room.{most};
+ghost use Rattle.stages.specs.Listed.{written};
 ghost use Rattle.stages.specs.Edges.{speechBefore};
 
 // What a frame with this mask byte adds to a speech count.
@@ -36,27 +36,6 @@ pub fn speech_in(mask: &[u8], from: u32, to: u32) -> u32
         at += 1;
     }
     count
-}
-
-// How many speech frames there are before each boundary, and at last before the mask's end.
-pub fn speech_before(mask: &[u8], bounds: &[u32]) -> [u32; 65]
-    requires { ⌜ (length (now mask) < 2 ^ 32) × (length (now bounds) ≤ most) × Increasing (now bounds) ⌝ }
-    ensures { λ r. ⌜ r ≡ tableOf (speechBefore (now (mask .entry)) (now (bounds .entry))) (length (now (bounds .entry)) + 1) edges 0 ⌝ }
-{
-    let end = mask.len() as u32;
-    let mut counts = [0u32; 65];
-    let mut count = 0;
-    let mut from = 0;
-    let mut j = 0;
-    while j < bounds.len() {
-        let to = bounds[j];
-        count += speech_in(mask, from, to);
-        counts[j] = count;
-        from = to;
-        j += 1;
-    }
-    counts[j] = count + speech_in(mask, from, end);
-    counts
 }
 
 // How many speech frames there are before each boundary, and at last before the mask's end.

@@ -5,4 +5,3 @@ pub mod anchors;
 pub mod clear;
 mod counts;
 pub mod filler;
-pub mod tables;

@@ -7,7 +7,7 @@ use lib.Ieee.{binary64, nan, ofBits}
 use lib.ListN.{length, drop, replicate}
 use Rattle.record.proofs.Accepted.{fit}
 use Rattle.stages.specs.Tables.{tablesIn}
-use Rattle.stages.specs.declared.tables.StageTables.{StageTables}
+use Rattle.stages.specs.Tables.{StageTables}
 use Rattle.closed.specs.Reported.{AllRows, Reports}
 use Rattle.closed.specs.Asked.{columnsOf, cellsFor}
 use Rattle.closed.proofs.Lists.{whole}

@@ -15,7 +15,7 @@ use Rattle.record.specs.Meaning.{phraseOf}
 use Rattle.record.proofs.Accepted.{fit}
 use Rattle.record.proofs.Reading.{within-real}
 use Rattle.stages.specs.Room.{most}
-use Rattle.stages.specs.declared.tables.StageTables.{StageTables}
+use Rattle.stages.specs.Tables.{StageTables}
 use Rattle.paths.specs.CellRule.{rows}
 use Rattle.paths.specs.Marks.{marks}
 use Rattle.rows.proofs.Cells.{same-trans}

@@ -9,7 +9,7 @@ use Rattle.paths.specs.Problem.{Problem}
 use Rattle.paths.specs.Passes.{passProblem}
 use Rattle.record.specs.Meaning.{phraseOf}
 use Rattle.stages.specs.Tables.{tablesIn}
-use Rattle.stages.specs.declared.tables.StageTables.{StageTables}
+use Rattle.stages.specs.Tables.{StageTables}
 use Rattle.closed.specs.Searched.{Agrees}
 use Rattle.closed.specs.Asked.{columnsOf}
 use Rattle.closed.proofs.Staged.{pass-readable, pass-cells, pass-agrees}

@@ -1,13 +1,13 @@
 -- Which passes there are.
-use mathlib.Core.Path.{_≡_, sym, ap, subst⁻¹, _∙_}
+use mathlib.Core.Path.{ap, subst⁻¹, _∙_}
 use mathlib.Core.List.{List}
 use Prim.Native.Nat.{ℕ, _≤_}
-use native.Mathlib.Omega.{arith}
 use lib.ListN.{length}
 use Rattle.paths.specs.Passes.{speaks}
 use Rattle.record.specs.declared.read.Which.the-variants.{Nuclei}
 use Rattle.prepare.proofs.Parts.{few-anchors}
-use Rattle.decode.proofs.Plans.{runs-added, runs-voiced, copied-front}
+use Rattle.prepare.proofs.Lists.{copied-front, copied-counted, copied-within}
+use Rattle.decode.proofs.Plans.{runs-added, runs-voiced}
 use borrow.Author.Needs.{needs}
 use Rattle.decode.proofs.plan.runs_of.Statement.{statement}
 use Rattle.decode.proofs.plan.runs_of.Tie as tie
@@ -22,10 +22,10 @@ mask-requires : tie.Need-mask-requires
 mask-requires c κs = search needs
 
 array-share-prefix-nuclei : tie.Need-array-share-prefix-nuclei
-array-share-prefix-nuclei c = omega (arith, c .before .before .anchors .ensures .counted, c .before .before .anchors .kept, few-anchors (c .before .before .before .before .before .pre .0) Nuclei)
+array-share-prefix-nuclei c = copied-within (c .before .before .anchors .ensures)
 
 slice-aggregate-has-nucleus : tie.Need-slice-aggregate-has-nucleus
-slice-aggregate-has-nucleus c = let read = c .before .before .before .anchors .ensures in read .counted ∙ ap length (sym (copied-front read))
+slice-aggregate-has-nucleus c = copied-counted (c .before .before .before .anchors .ensures)
 
 has-nucleus-requires : tie.Need-has-nucleus-requires
 has-nucleus-requires c κs = subst⁻¹ (λ (l : List ℕ). length l ≤ 64) (copied-front (c .before .before .before .anchors .ensures)) (few-anchors (c .before .before .before .before .before .before .pre .0) Nuclei)
