@@ -18,6 +18,14 @@ use phrase::costs::Costs;
 use reading::read::column;
 use reading::read::units;
 use record::layout::Layout;
+use stages::lists::DURATION;
+use stages::lists::FIGURES;
+use stages::lists::FIRST;
+use stages::lists::GAP;
+use stages::lists::ROW;
+use stages::lists::SECOND;
+use stages::lists::SPAN_START;
+use stages::lists::STOP;
 
 // The rows of no units and of every count up to the candidate's k, over the lent tables of a stage.
 pub fn fill_rows<'a>(
@@ -40,20 +48,20 @@ pub fn fill_rows<'a>(
     ensures { λ _. ⌜ RowsFilled (phraseOf (now (bytes .entry))) (columnsOf (now (bytes .entry)) candidate) strictness (tablesIn n (now (words .entry)) (now (figures .entry))) (now (best .entry)) (now (back .entry)) (now (best .exit)) (now (back .exit)) ⌝ }
 {
     let unvoiced = costs.unvoiced as f64;
-    fill_first(best, back, &figures[..64], &figures[64..128], n);
+    fill_first(best, back, &figures[..GAP], &figures[GAP..STOP], n);
     let mut score = [0.0f64; 64];
     for s in 0..k {
         let unit = column(bytes, at, candidate, s);
-        row_scores(bytes, at, &words[192..256], n, unit, &mut score);
+        row_scores(bytes, at, &words[ROW..SPAN_START], n, unit, &mut score);
         fill_next(
             best,
             back,
-            &words[..64],
-            &words[64..128],
-            &words[128..192],
-            &figures[64..128],
+            &words[..FIRST],
+            &words[FIRST..SECOND],
+            &words[SECOND..ROW],
+            &figures[GAP..STOP],
             &score,
-            &figures[192..267],
+            &figures[DURATION..FIGURES],
             unvoiced,
             strictness,
             n,
@@ -96,5 +104,5 @@ pub fn best_path<'a>(
         candidate,
         k,
     );
-    finish(best, back, &figures[128..192], n, k)
+    finish(best, back, &figures[STOP..DURATION], n, k)
 }

@@ -9,6 +9,8 @@ use prepare::stage::lay_stage;
 use record::read::Which;
 use record::refusal::Checked;
 use rows::clear::clear;
+use stages::lists::FIGURES;
+use stages::lists::WORDS;
 ghost use Rattle.decoding.specs.Contract.{Decodes};
 
 // How many f64 and u32 of the work areas are used.
@@ -24,10 +26,10 @@ pub fn decode(record: &[u8], best: &mut [f64], back: &mut [u32], out: &mut [u32]
         Checked::Accepted(at) => {
             clear(best, back, WORK_CELLS);
             let plan = plan_of(record, at);
-            let mut words = [0u32; 384];
-            let mut figures = [0.0f64; 267];
-            let mut added_words = [0u32; 384];
-            let mut added_figures = [0.0f64; 267];
+            let mut words = [0u32; WORDS];
+            let mut figures = [0.0f64; FIGURES];
+            let mut added_words = [0u32; WORDS];
+            let mut added_figures = [0.0f64; FIGURES];
             let lo = plan.lo_edge;
             let hi = plan.hi_edge;
             lay_stage(record, at, Which::Nuclei, lo, hi, &mut words, &mut figures);

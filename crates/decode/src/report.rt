@@ -3,6 +3,10 @@
 use clip::clip::NO_ROW;
 use clip::clip::clip_unanchored;
 use rows::trace::Units;
+use stages::lists::FIRST;
+use stages::lists::ROW;
+use stages::lists::SPAN_END;
+use stages::lists::SPAN_START;
 ghost use mathlib.Core.Path.{_≡_};
 ghost use Rattle.decode.specs.Places.{placeOf, Placeable, PlacedAll, ReportedAll};
 
@@ -52,10 +56,10 @@ fn placed_units(units: Units, k: usize, words: &[u32]) -> Reported
         let unit = place_unit(
             words[i],
             words[j],
-            words[64 + i],
-            words[192 + i],
-            words[256 + i],
-            words[320 + i],
+            words[FIRST + i],
+            words[ROW + i],
+            words[SPAN_START + i],
+            words[SPAN_END + i],
         );
         starts[s] = unit.start;
         ends[s] = unit.end;

@@ -11,6 +11,10 @@ use stages::anchors::BEYOND;
 use stages::anchors::place_anchors;
 use stages::clear::clear_words;
 use stages::filler::lay_filler;
+use stages::lists::DURATION;
+use stages::lists::FIGURES;
+use stages::lists::SPAN_START;
+use stages::lists::WORDS;
 ghost use mathlib.Core.Path.{_≡_};
 ghost use Prim.Native.Nat.{_+_, _*_, _<_, _≤_, _^_};
 ghost use lib.ListN.{length, getD};
@@ -123,7 +127,7 @@ fn lay_words(
         &mut rows,
         &mut places,
     );
-    lay_ahead(&frames, &rows, &places, bounds, &mut words[0..256]);
+    lay_ahead(&frames, &rows, &places, bounds, &mut words[0..SPAN_START]);
     lay_spans(
         &frames,
         &places,
@@ -131,7 +135,7 @@ fn lay_words(
         bounds,
         lo_edge,
         hi_edge,
-        &mut words[256..384],
+        &mut words[SPAN_START..WORDS],
     );
 }
 
@@ -183,7 +187,7 @@ pub fn lay_stage(
         &nuclei[..n],
         &bounds[..b],
         read::costs(bytes, at),
-        &mut figures[0..192],
+        &mut figures[0..DURATION],
     );
-    lay_durations(bytes, at, which, &mut figures[192..267]);
+    lay_durations(bytes, at, which, &mut figures[DURATION..FIGURES]);
 }

@@ -1,6 +1,10 @@
 // What the look ahead of the search needs, for each boundary.
 
 use crate::clear::clear_words;
+use crate::lists::FIRST;
+use crate::lists::ROW;
+use crate::lists::SECOND;
+use crate::lists::SPAN_START;
 ghost use mathlib.Core.Path.{_≡_};
 ghost use Prim.Native.Nat.{_*_, _<_, _≤_};
 ghost use lib.ListN.{length, getD};
@@ -40,8 +44,8 @@ pub fn lay_ahead(frames: &[u32], rows: &[u32], places: &[u32], bounds: &[u32], w
 {
     let n = bounds.len();
     clear_words(words);
-    copy(bounds, &mut words[0..64]);
-    pick(frames, places, n, &mut words[64..128]);
-    pick(&frames[1..], places, n, &mut words[128..192]);
-    pick(rows, places, n, &mut words[192..256]);
+    copy(bounds, &mut words[0..FIRST]);
+    pick(frames, places, n, &mut words[FIRST..SECOND]);
+    pick(&frames[1..], places, n, &mut words[SECOND..ROW]);
+    pick(rows, places, n, &mut words[ROW..SPAN_START]);
 }

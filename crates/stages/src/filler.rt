@@ -4,6 +4,9 @@ use crate::anchors::BEYOND;
 use crate::anchors::place_anchors;
 use crate::clear::clear_figures;
 use crate::counts::count_speech;
+use crate::lists::DURATION;
+use crate::lists::GAP;
+use crate::lists::STOP;
 use phrase::costs::Costs;
 ghost use mathlib.Core.Path.{_≡_};
 ghost use Prim.Native.Nat.{_+_, _*_, _≤_};
@@ -65,9 +68,9 @@ fn lay_costs(speech: &[u32], nuclei: &[u32], n: usize, costs: Costs, figures: &m
     ensures { λ _. ⌜ Priced costs (now (speech .entry)) (now (nuclei .entry)) n n (tableAt 0 (now (figures .exit))) (tableAt 1 (now (figures .exit))) (tableAt 2 (now (figures .exit))) ⌝ }
 {
     clear_figures(figures);
-    start_costs(speech, nuclei, n, costs, &mut figures[0..64]);
-    gap_costs(speech, nuclei, n, costs, &mut figures[64..128]);
-    stop_costs(speech, nuclei, n, costs, &mut figures[128..192]);
+    start_costs(speech, nuclei, n, costs, &mut figures[0..GAP]);
+    gap_costs(speech, nuclei, n, costs, &mut figures[GAP..STOP]);
+    stop_costs(speech, nuclei, n, costs, &mut figures[STOP..DURATION]);
 }
 
 // The filler costs of a stage with these boundaries. The nuclei are the record's, whatever the stage.

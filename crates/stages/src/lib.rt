@@ -5,3 +5,4 @@ pub mod anchors;
 pub mod clear;
 mod counts;
 pub mod filler;
+pub mod lists;
