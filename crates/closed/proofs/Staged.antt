@@ -29,7 +29,7 @@ use Rattle.stages.specs.Tables.{StageTables}
 use Rattle.stages.specs.Tables.{Tabled, beyond}
 use Rattle.closed.specs.Searched.{Agrees, Readable, scoreRows}
 use Rattle.closed.specs.Asked.{Candidate, columnsOf, cellsFor, Unused}
-use Rattle.closed.specs.Answered.{passStage, passStrictness}
+use Rattle.closed.specs.Answered.{passStage, passSection, passStrictness}
 use Rattle.closed.proofs.Bridge.{agrees, readable}
 
 -- what the tables of a stage are read by
@@ -61,15 +61,21 @@ unfolding phraseOf phraseAt
 added-next bytes = sym (length-listed (frameAt bytes (layoutOf bytes .nuclei)) (layoutOf bytes .nuclei .count))
 
 -- The layout has the number of boundaries of each stage.
-pub boundary-count : {bytes : List ℕ} {at : Layout} → Laid bytes at → length (phraseOf bytes .nuclei .boundaries) ≡ at .boundaries .count
+boundary-count : {bytes : List ℕ} {at : Layout} → Laid bytes at → length (phraseOf bytes .nuclei .boundaries) ≡ at .boundaries .count
 unfolding phraseOf phraseAt
 boundary-count {bytes} laid =
     length-listed (frameAt bytes (layoutOf bytes .boundaries)) (layoutOf bytes .boundaries .count) ∙ ap (λ (l : Layout). l .boundaries .count) (sym (laid .layout))
 
-pub added-count : {bytes : List ℕ} {at : Layout} → Laid bytes at → length (phraseOf bytes .added .boundaries) ≡ at .added .count
+added-count : {bytes : List ℕ} {at : Layout} → Laid bytes at → length (phraseOf bytes .added .boundaries) ≡ at .added .count
 unfolding phraseOf phraseAt
 added-count {bytes} laid =
     length-listed (frameAt bytes (layoutOf bytes .added)) (layoutOf bytes .added .count) ∙ ap (λ (l : Layout). l .added .count) (sym (laid .layout))
+
+pub pass-count : {bytes : List ℕ} {at : Layout} → Laid bytes at → (pass : Pass) → length (passStage (phraseOf bytes) pass .boundaries) ≡ passSection at pass .count
+pass-count laid NucleiStrict = boundary-count laid
+pass-count laid CountStrict = added-count laid
+pass-count laid CountRelaxed = added-count laid
+pass-count laid NucleiRelaxed = boundary-count laid
 
 module _ {bytes : List ℕ} {at : Layout} {costs : Costs} {candidate : ℕ} (asked : Candidate bytes at costs candidate) where
   stage-fits : (pass : Pass) → Fits (passStage (phraseOf bytes) pass)

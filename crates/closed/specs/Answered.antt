@@ -11,6 +11,8 @@ use Rattle.paths.specs.declared.passes.Strictness.the-variants.{Strict, Relaxed
 use Rattle.paths.specs.declared.passes.Pass.{Pass}
 use Rattle.paths.specs.declared.passes.Pass.the-variants.{NucleiStrict, CountStrict, CountRelaxed, NucleiRelaxed}
 use Rattle.paths.specs.CellRule.{chosenPath}
+use Rattle.record.specs.declared.layout.Layout.{Layout}
+use Rattle.record.specs.declared.layout.Section.{Section}
 use Rattle.paths.specs.Marks.{unitsOf}
 use Rattle.paths.specs.Passes.{passNumber, passProblem, speaks, hasNucleus, nonEmpty}
 use Rattle.paths.specs.Demand.{found, none, unvoiced, Answer as Demanded}
@@ -48,6 +50,13 @@ passStage phrase NucleiStrict = phrase .nuclei
 passStage phrase CountStrict = phrase .added
 passStage phrase CountRelaxed = phrase .added
 passStage phrase NucleiRelaxed = phrase .nuclei
+
+-- where its boundaries stand in the record
+abbrev pub passSection : Layout → Pass → Section
+passSection at NucleiStrict = at .boundaries
+passSection at CountStrict = at .added
+passSection at CountRelaxed = at .added
+passSection at NucleiRelaxed = at .boundaries
 
 abbrev pub passStrictness : Pass → Strictness
 passStrictness NucleiStrict = Strict

@@ -3,13 +3,14 @@
 ghost use mathlib.Core.Bool.{true};
 ghost use mathlib.Core.List.{[]};
 ghost use mathlib.Core.Path.{_≡_};
+ghost use lib.ListN.{length};
 ghost use Rattle.paths.specs.Passes.{hasNucleus};
 ghost use Rattle.paths.specs.Search.{chosen};
 ghost use Rattle.record.specs.Edition.{edition1};
 ghost use Rattle.record.specs.Meaning.{phraseOf};
 ghost use Rattle.stages.specs.Tables.{Tabled, tablesIn};
 ghost use Rattle.rows.specs.Traced.{UnitsAre};
-ghost use Rattle.closed.specs.Answered.{Says, isFound, numberOf, passStage, passStrictness, passAnswer, RunsOf, BothLent};
+ghost use Rattle.closed.specs.Answered.{Says, isFound, numberOf, passSection, passStage, passStrictness, passAnswer, RunsOf, BothLent};
 ghost use Rattle.closed.specs.Asked.{Candidate, columnsOf, Unused, Lent};
 use crate::best_path::best_path;
 use crate::path::Found;
@@ -73,6 +74,18 @@ fn strictness_of(pass: Pass) -> Strictness
     }
 }
 
+// How many boundaries the stage of a pass has.
+fn boundary_count(at: Layout, pass: Pass) -> usize
+    ensures { λ r. ⌜ r ≡ passSection at pass .count ⌝ }
+{
+    match pass {
+        Pass::NucleiStrict => at.boundaries.count,
+        Pass::CountStrict => at.added.count,
+        Pass::CountRelaxed => at.added.count,
+        Pass::NucleiRelaxed => at.boundaries.count,
+    }
+}
+
 // What is asked: a candidate of the record, with the record's layout and cost figures.
 pub struct Task {
     pub at: Layout,
@@ -88,18 +101,18 @@ pub fn attempt<'a>(
     task: Task,
     words: &'a [u32],
     figures: &'a [f64],
-    n: usize,
     pass: Pass,
 ) -> Searched
     requires { ⌜ Candidate (now bytes) (task .at) (task .costs) (task .candidate) × (hasNucleus (phraseOf (now bytes)) ≡ true) ⌝ }
     requires { ⌜ Lent (now words) (now figures) ⌝ }
-    requires { ⌜ Tabled (phraseOf (now bytes)) (passStage (phraseOf (now bytes)) pass) (tablesIn n (now words) (now figures)) ⌝ }
+    requires { ⌜ Tabled (phraseOf (now bytes)) (passStage (phraseOf (now bytes)) pass) (tablesIn (length (passStage (phraseOf (now bytes)) pass .boundaries)) (now words) (now figures)) ⌝ }
     requires { ⌜ Unused (now best) (now back) (edition1 .«work_cells») ⌝ }
     ensures { λ r. ⌜ Says (passAnswer (phraseOf (now (bytes .entry))) pass (columnsOf (now (bytes .entry)) (task .candidate))) r ⌝ }
     ensures { λ _. ⌜ (now (best .exit) ≡ now (best .entry)) × (now (back .exit) ≡ now (back .entry)) ⌝ }
 {
     let strictness = strictness_of(pass);
     let at = task.at;
+    let n = boundary_count(at, pass);
     let costs = task.costs;
     let candidate = task.candidate;
     let path = best_path(
@@ -164,35 +177,14 @@ pub fn search<'a>(
     if !runs.spoken {
         return no_path(Answer::None);
     }
-    let at = task.at;
-    let n = at.boundaries.count;
-    let first = attempt(
-        best,
-        back,
-        bytes,
-        task,
-        words,
-        figures,
-        n,
-        Pass::NucleiStrict,
-    );
+    let first = attempt(best, back, bytes, task, words, figures, Pass::NucleiStrict);
     let answer = first.answer;
     if answer.is_found() {
         return first;
     }
     if !runs.added {
-        return attempt(
-            best,
-            back,
-            bytes,
-            task,
-            words,
-            figures,
-            n,
-            Pass::NucleiRelaxed,
-        );
+        return attempt(best, back, bytes, task, words, figures, Pass::NucleiRelaxed);
     }
-    let d = at.added.count;
     let second = attempt(
         best,
         back,
@@ -200,7 +192,6 @@ pub fn search<'a>(
         task,
         added_words,
         added_figures,
-        d,
         Pass::CountStrict,
     );
     let answer = second.answer;
@@ -214,7 +205,6 @@ pub fn search<'a>(
         task,
         added_words,
         added_figures,
-        d,
         Pass::CountRelaxed,
     )
 }

@@ -1,6 +1,6 @@
 -- `closed::search::attempt` meets its contract. Assumes nothing.
 use mathlib.Core.List.{List}
-use mathlib.Core.Path.{subst⁻¹}
+use mathlib.Core.Path.{sym, subst, subst⁻¹, _∙_}
 use Prim.Native.Nat.{ℕ}
 use lib.ListN.{length}
 use Rattle.phrase.specs.Phrase.{Phrase}
@@ -8,11 +8,12 @@ use Rattle.paths.specs.declared.passes.Strictness.{Strictness}
 use Rattle.paths.specs.Problem.{Problem}
 use Rattle.paths.specs.Passes.{passProblem}
 use Rattle.record.specs.Meaning.{phraseOf}
-use Rattle.stages.specs.Tables.{tablesIn}
+use Rattle.stages.specs.Tables.{Tabled, tablesIn}
 use Rattle.stages.specs.Tables.{StageTables}
 use Rattle.closed.specs.Searched.{Agrees}
 use Rattle.closed.specs.Asked.{columnsOf}
-use Rattle.closed.proofs.Staged.{pass-readable, pass-cells, pass-agrees}
+use Rattle.closed.specs.Answered.{passStage}
+use Rattle.closed.proofs.Staged.{pass-count, pass-readable, pass-cells, pass-agrees}
 use Rattle.closed.proofs.Answers.{says-found, says-none}
 use borrow.Author.Needs.{needs}
 use Rattle.closed.proofs.search.attempt.Statement.{statement}
@@ -24,34 +25,45 @@ phrase c = phraseOf (c .args .bytes .now)
 abbrev columns : tie.Start → List ℕ
 columns c = columnsOf (c .args .bytes .now) (c .args .task .candidate)
 
-abbrev tables : tie.Start → StageTables
-tables c = tablesIn (c .args .n) (c .args .words .now) (c .args .figures .now)
-
 -- the problem of the pass
 abbrev problem : tie.Start → Problem
 problem c = passProblem (phrase c) (c .args .pass) (columns c)
 
-agreed : (c : tie.After-strictness-of) → let start = c .before .before .before .before .before .before in
-    Agrees (phrase start) (columns start) (c .strictness-of .result) (tables start) (problem start)
+-- its tables
+abbrev tables : (c : tie.After-boundary-count) → StageTables
+tables c = let a = c .before .before .before .before .before .before .before .before .args in tablesIn (c .boundary-count .result) (a .words .now) (a .figures .now)
+
+tabled : (c : tie.After-boundary-count) → Tabled (phrase (c .before .before .before .before .before .before .before .before)) (passStage (phrase (c .before .before .before .before .before .before .before .before)) (c .before .before .before .before .before .before .before .before .args .pass)) (tables c)
+tabled c =
+    let start = c .before .before .before .before .before .before .before .before in
+    let a = start .args in
+    subst (λ (n : ℕ). Tabled (phrase start) (passStage (phrase start) (a .pass)) (tablesIn n (a .words .now) (a .figures .now)))
+    (pass-count (start .pre .0 .0 .laid) (a .pass) ∙ sym (c .boundary-count .ensures)) (start .pre .1 .1 .0)
+
+agreed : (c : tie.After-boundary-count) → Agrees (phrase (c .before .before .before .before .before .before .before .before)) (columns (c .before .before .before .before .before .before .before .before)) (c .before .before .strictness-of .result) (tables c) (problem (c .before .before .before .before .before .before .before .before))
 agreed c =
-    let start = c .before .before .before .before .before .before in
-    subst⁻¹ (λ (x : Strictness). Agrees (phrase start) (columns start) x (tables start) (problem start)) (c .strictness-of .ensures)
-    (pass-agrees (start .pre .0 .0) (start .args .pass) (start .pre .1 .1 .0) (columns start))
+    let start = c .before .before .before .before .before .before .before .before in
+    subst⁻¹ (λ (x : Strictness). Agrees (phrase start) (columns start) x (tables c) (problem start)) (c .before .before .strictness-of .ensures)
+    (pass-agrees (start .pre .0 .0) (start .args .pass) (tabled c) (columns start))
 
 strictness-of-requires : tie.Need-strictness-of-requires
 strictness-of-requires c κs = search needs
 
+boundary-count-requires : tie.Need-boundary-count-requires
+boundary-count-requires c κs = search needs
+
 best-path-requires : tie.Need-best-path-requires
 best-path-requires c κs =
-    let start = c .before .before .before .before .before .before .before .before .before .before in
+    let start = c .before .before .before .before .before .before .before .before .before .before .before in
     let a = start .args in
-    let asked = start .pre .0 .0 in (
+    let asked = start .pre .0 .0 in
+    let is = tabled (c .before .before .before) in (
       asked,
       (
         start .pre .1 .0,
         (
-          (pass-readable asked (a .pass) (start .pre .1 .1 .0) (start .pre .0 .1), (problem start, agreed (c .before .before .before .before))),
-          pass-cells asked (a .pass) (start .pre .1 .1 .0) (a .best .now) (a .back .now) (start .pre .1 .1 .1),
+          (pass-readable asked (a .pass) is (start .pre .0 .1), (problem start, agreed (c .before .before .before))),
+          pass-cells asked (a .pass) is (a .best .now) (a .back .now) (start .pre .1 .1 .1),
         ),
       ),
     )
@@ -70,9 +82,9 @@ same-length-2 c = search needs
 
 returns : tie.Need-returns
 returns c =
-    let start = c .before .before .before .before .before .before .before .before .before .before .before .before .before .before .before .before .before .before .before in
+    let start = c .before .before .before .before .before .before .before .before .before .before .before .before .before .before .before .before .before .before .before .before in
     let path = c .before .before .before .before .before .before .before .before .best-path in (
-      says-found (start .args .pass) (problem start) (length (columns start)) (path .result) (path .ensures .0 (problem start) (agreed (c .before .before .before .before .before .before .before .before .before .before .before .before .before))) (c .before .found .given .1),
+      says-found (start .args .pass) (problem start) (length (columns start)) (path .result) (path .ensures .0 (problem start) (agreed (c .before .before .before .before .before .before .before .before .before .before .before .before))) (c .before .found .given .1),
       path .ensures .1,
     )
 
@@ -84,9 +96,9 @@ same-length-4 c = search needs
 
 returns-2 : tie.Need-returns-2
 returns-2 c =
-    let start = c .before .before .before .before .before .before .before .before .before .before .before .before .before .before .before .before .before .before in
+    let start = c .before .before .before .before .before .before .before .before .before .before .before .before .before .before .before .before .before .before .before in
     let path = c .before .before .before .before .before .before .before .best-path in (
-      says-none (start .args .pass) (problem start) (length (columns start)) (path .result) (path .ensures .0 (problem start) (agreed (c .before .before .before .before .before .before .before .before .before .before .before .before))) (c .enum-told .given .1),
+      says-none (start .args .pass) (problem start) (length (columns start)) (path .result) (path .ensures .0 (problem start) (agreed (c .before .before .before .before .before .before .before .before .before .before .before))) (c .enum-told .given .1),
       path .ensures .1,
     )
 
@@ -95,6 +107,7 @@ attempt-spec =
     tie.close
     (tie.spec
     strictness-of-requires
+    boundary-count-requires
     best-path-requires
     enum-known-found
     enum-told

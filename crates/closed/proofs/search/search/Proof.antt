@@ -1,16 +1,14 @@
 -- `closed::search::search` meets its contract: proofs/InOrder.antt has the order of the passes. Assumes nothing.
 use mathlib.Core.Bool.{true}
 use mathlib.Core.List.{List}
-use mathlib.Core.Path.{_≡_, refl, sym, subst, _∙_}
+use mathlib.Core.Path.{_≡_, refl, sym, _∙_}
 use Prim.Native.Nat.{ℕ}
 use lib.Ieee.{Float}
 use borrow.Author.Tests.{not-true, not-false}
 use Rattle.phrase.specs.Phrase.{Phrase}
 use Rattle.paths.specs.Passes.{speaks, hasNucleus, nonEmpty}
 use Rattle.record.specs.Meaning.{phraseOf}
-use Rattle.stages.specs.Tables.{Tabled, tablesIn}
 use Rattle.closed.specs.Asked.{columnsOf, Unused}
-use Rattle.closed.proofs.Staged.{boundary-count, added-count}
 use Rattle.closed.proofs.InOrder.{says-unvoiced, says-silent, says-strict, says-relaxed, says-count, says-last}
 use borrow.Author.Needs.{needs}
 use Rattle.closed.proofs.search.search.Statement.{statement}
@@ -33,20 +31,10 @@ spoken c =
     let start = c .before .before .before .before .before .before .before .before .before .before .before in
     sym (start .pre .0 .1 .spoken) ∙ not-false (start .args .runs .spoken) (c .if2 .left)
 
-added : (c : tie.Else4) → nonEmpty (phrase (c .before .before .before .before .before .before .before .before .before .before .before .before .before .before .before .before .before .before .before .before .before .before .before) .added .anchors) ≡ true
+added : (c : tie.Else4) → nonEmpty (phrase (c .before .before .before .before .before .before .before .before .before .before .before .before .before .before .before .before .before .before .before .before .before .before) .added .anchors) ≡ true
 added c =
-    let start = c .before .before .before .before .before .before .before .before .before .before .before .before .before .before .before .before .before .before .before .before .before .before .before in
+    let start = c .before .before .before .before .before .before .before .before .before .before .before .before .before .before .before .before .before .before .before .before .before .before in
     sym (start .pre .0 .1 .added) ∙ not-false (start .args .runs .added) (c .if4 .left)
-
--- the tables, by the counts of the layout
-nuclei-tabled : (c : tie.Start) → Tabled (phrase c) (phrase c .nuclei) (tablesIn (c .args .task .at .boundaries .count) (c .args .words .now) (c .args .figures .now))
-nuclei-tabled c = subst (λ (n : ℕ). Tabled (phrase c) (phrase c .nuclei) (tablesIn n (c .args .words .now) (c .args .figures .now))) (boundary-count (c .pre .0 .0 .laid)) (c .pre .1 .0 .nuclei)
-
-added-tabled :
-    (c : tie.Start) → nonEmpty (phrase c .added .anchors) ≡ true →
-    Tabled (phrase c) (phrase c .added) (tablesIn (c .args .task .at .added .count) (c .args .added-words .now) (c .args .added-figures .now))
-added-tabled c there =
-    subst (λ (n : ℕ). Tabled (phrase c) (phrase c .added) (tablesIn n (c .args .added-words .now) (c .args .added-figures .now))) (added-count (c .pre .0 .0 .laid)) (c .pre .1 .0 .added there)
 
 -- areas that are as they came are unused still
 still :
@@ -76,8 +64,8 @@ returns-2 c =
 
 attempt-requires : tie.Need-attempt-requires
 attempt-requires c κs =
-    let start = c .before .before .before .before .before .before .before .before .before .before .before .before .before .before in
-    ((start .pre .0 .0, voiced (c .before .before .before .before .before)), (start .pre .1 .0 .whole, (nuclei-tabled start, start .pre .1 .1)))
+    let start = c .before .before .before .before .before .before .before .before .before .before .before .before .before in
+    ((start .pre .0 .0, voiced (c .before .before .before .before)), (start .pre .1 .0 .whole, (start .pre .1 .0 .nuclei, start .pre .1 .1)))
 
 is-found-requires : tie.Need-is-found-requires
 is-found-requires c κs = search needs
@@ -90,17 +78,17 @@ same-length-2 c = search needs
 
 returns-3 : tie.Need-returns-3
 returns-3 c =
-    let start = c .before .before .before .before .before .before .before .before .before .before .before .before .before .before .before .before .before .before .before .before .before in
+    let start = c .before .before .before .before .before .before .before .before .before .before .before .before .before .before .before .before .before .before .before .before in
     let first = c .before .before .before .before .before .before .attempt in (
-      says-strict (phrase start) (columns start) (voiced (c .before .before .before .before .before .before .before .before .before .before .before .before)) (spoken (c .before .before .before .before .before .before .before .before .before .before)) (first .result) (first .ensures .0) (sym (c .before .is-found .ensures) ∙ c .if3 .taken),
+      says-strict (phrase start) (columns start) (voiced (c .before .before .before .before .before .before .before .before .before .before .before)) (spoken (c .before .before .before .before .before .before .before .before .before)) (first .result) (first .ensures .0) (sym (c .before .is-found .ensures) ∙ c .if3 .taken),
       first .ensures .1,
     )
 
 attempt-requires-2 : tie.Need-attempt-requires-2
 attempt-requires-2 c κs =
-    let start = c .before .before .before .before .before .before .before .before .before .before .before .before .before .before .before .before .before .before .before .before .before .before .before .before .before in
+    let start = c .before .before .before .before .before .before .before .before .before .before .before .before .before .before .before .before .before .before .before .before .before .before .before .before in
     let first = c .before .before .before .before .before .before .before .before .before .before .attempt .ensures .1 in
-    ((start .pre .0 .0, voiced (c .before .before .before .before .before .before .before .before .before .before .before .before .before .before .before .before)), (start .pre .1 .0 .whole, (nuclei-tabled start, still (first .0) (first .1) (start .pre .1 .1))))
+    ((start .pre .0 .0, voiced (c .before .before .before .before .before .before .before .before .before .before .before .before .before .before .before)), (start .pre .1 .0 .whole, (start .pre .1 .0 .nuclei, still (first .0) (first .1) (start .pre .1 .1))))
 
 same-length-3 : tie.Need-same-length-3
 same-length-3 c = search needs
@@ -110,19 +98,19 @@ same-length-4 c = search needs
 
 returns-4 : tie.Need-returns-4
 returns-4 c =
-    let start = c .before .before .before .before .before .before .before .before .before .before .before .before .before .before .before .before .before .before .before .before .before .before .before .before .before .before .before .before .before .before in
+    let start = c .before .before .before .before .before .before .before .before .before .before .before .before .before .before .before .before .before .before .before .before .before .before .before .before .before .before .before .before .before in
     let first = c .before .before .before .before .before .before .before .before .before .before .before .before .before .before .before .attempt in
     let last = c .before .before .before .before .attempt2 in (
-      says-relaxed (phrase start) (columns start) (voiced (c .before .before .before .before .before .before .before .before .before .before .before .before .before .before .before .before .before .before .before .before .before)) (spoken (c .before .before .before .before .before .before .before .before .before .before .before .before .before .before .before .before .before .before .before)) (first .result) (first .ensures .0) (sym (c .before .before .before .before .before .before .before .before .before .before .is-found .ensures) ∙ c .before .before .before .before .before .before .before .before .before .if3 .left)
+      says-relaxed (phrase start) (columns start) (voiced (c .before .before .before .before .before .before .before .before .before .before .before .before .before .before .before .before .before .before .before .before)) (spoken (c .before .before .before .before .before .before .before .before .before .before .before .before .before .before .before .before .before .before)) (first .result) (first .ensures .0) (sym (c .before .before .before .before .before .before .before .before .before .before .is-found .ensures) ∙ c .before .before .before .before .before .before .before .before .before .if3 .left)
           (sym (start .pre .0 .1 .added) ∙ not-true (start .args .runs .added) (c .before .before .before .before .before .before .before .if4 .taken)) (last .result) (last .ensures .0),
       (last .ensures .1 .0 ∙ first .ensures .1 .0, last .ensures .1 .1 ∙ first .ensures .1 .1),
     )
 
 attempt-requires-3 : tie.Need-attempt-requires-3
 attempt-requires-3 c κs =
-    let start = c .before .before .before .before .before .before .before .before .before .before .before .before .before .before .before .before .before .before .before .before .before .before .before .before .before in
+    let start = c .before .before .before .before .before .before .before .before .before .before .before .before .before .before .before .before .before .before .before .before .before .before .before .before in
     let first = c .before .before .before .before .before .before .before .before .before .before .attempt .ensures .1 in
-    ((start .pre .0 .0, voiced (c .before .before .before .before .before .before .before .before .before .before .before .before .before .before .before .before)), (start .pre .1 .0 .addedWhole, (added-tabled start (added (c .before .before)), still (first .0) (first .1) (start .pre .1 .1))))
+    ((start .pre .0 .0, voiced (c .before .before .before .before .before .before .before .before .before .before .before .before .before .before .before)), (start .pre .1 .0 .addedWhole, (start .pre .1 .0 .added (added (c .before .before)), still (first .0) (first .1) (start .pre .1 .1))))
 
 is-found-requires-2 : tie.Need-is-found-requires-2
 is-found-requires-2 c κs = search needs
@@ -135,21 +123,21 @@ same-length-6 c = search needs
 
 returns-5 : tie.Need-returns-5
 returns-5 c =
-    let start = c .before .before .before .before .before .before .before .before .before .before .before .before .before .before .before .before .before .before .before .before .before .before .before .before .before .before .before .before .before .before .before .before in
+    let start = c .before .before .before .before .before .before .before .before .before .before .before .before .before .before .before .before .before .before .before .before .before .before .before .before .before .before .before .before .before .before .before in
     let first = c .before .before .before .before .before .before .before .before .before .before .before .before .before .before .before .before .before .attempt in
     let second = c .before .before .before .before .before .before .attempt3 in (
-      says-count (phrase start) (columns start) (voiced (c .before .before .before .before .before .before .before .before .before .before .before .before .before .before .before .before .before .before .before .before .before .before .before)) (spoken (c .before .before .before .before .before .before .before .before .before .before .before .before .before .before .before .before .before .before .before .before .before)) (first .result) (first .ensures .0) (sym (c .before .before .before .before .before .before .before .before .before .before .before .before .is-found .ensures) ∙ c .before .before .before .before .before .before .before .before .before .before .before .if3 .left)
+      says-count (phrase start) (columns start) (voiced (c .before .before .before .before .before .before .before .before .before .before .before .before .before .before .before .before .before .before .before .before .before .before)) (spoken (c .before .before .before .before .before .before .before .before .before .before .before .before .before .before .before .before .before .before .before .before)) (first .result) (first .ensures .0) (sym (c .before .before .before .before .before .before .before .before .before .before .before .before .is-found .ensures) ∙ c .before .before .before .before .before .before .before .before .before .before .before .if3 .left)
           (added (c .before .before .before .before .before .before .before .before .before)) (second .result) (second .ensures .0) (sym (c .before .is-found2 .ensures) ∙ c .if5 .taken),
       (second .ensures .1 .0 ∙ first .ensures .1 .0, second .ensures .1 .1 ∙ first .ensures .1 .1),
     )
 
 attempt-requires-4 : tie.Need-attempt-requires-4
 attempt-requires-4 c κs =
-    let start = c .before .before .before .before .before .before .before .before .before .before .before .before .before .before .before .before .before .before .before .before .before .before .before .before .before .before .before .before .before .before .before .before .before .before in
+    let start = c .before .before .before .before .before .before .before .before .before .before .before .before .before .before .before .before .before .before .before .before .before .before .before .before .before .before .before .before .before .before .before .before .before in
     let first = c .before .before .before .before .before .before .before .before .before .before .before .before .before .before .before .before .before .before .before .attempt .ensures .1 in
     let second = c .before .before .before .before .before .before .before .before .attempt3 .ensures .1 in (
-      (start .pre .0 .0, voiced (c .before .before .before .before .before .before .before .before .before .before .before .before .before .before .before .before .before .before .before .before .before .before .before .before .before)),
-      (start .pre .1 .0 .addedWhole, (added-tabled start (added (c .before .before .before .before .before .before .before .before .before .before .before)), still (second .0 ∙ first .0) (second .1 ∙ first .1) (start .pre .1 .1))),
+      (start .pre .0 .0, voiced (c .before .before .before .before .before .before .before .before .before .before .before .before .before .before .before .before .before .before .before .before .before .before .before .before)),
+      (start .pre .1 .0 .addedWhole, (start .pre .1 .0 .added (added (c .before .before .before .before .before .before .before .before .before .before .before)), still (second .0 ∙ first .0) (second .1 ∙ first .1) (start .pre .1 .1))),
     )
 
 same-length-7 : tie.Need-same-length-7
@@ -160,11 +148,11 @@ same-length-8 c = c .before .before .before .before .attempt4 .kept .1 .0 ∙ c 
 
 returns-6 : tie.Need-returns-6
 returns-6 c =
-    let start = c .before .before .before .before .before .before .before .before .before .before .before .before .before .before .before .before .before .before .before .before .before .before .before .before .before .before .before .before .before .before .before .before .before .before .before .before .before .before .before in
+    let start = c .before .before .before .before .before .before .before .before .before .before .before .before .before .before .before .before .before .before .before .before .before .before .before .before .before .before .before .before .before .before .before .before .before .before .before .before .before .before in
     let first = c .before .before .before .before .before .before .before .before .before .before .before .before .before .before .before .before .before .before .before .before .before .before .before .before .attempt in
     let second = c .before .before .before .before .before .before .before .before .before .before .before .before .before .attempt3 in
     let last = c .before .before .before .before .attempt4 in (
-      says-last (phrase start) (columns start) (voiced (c .before .before .before .before .before .before .before .before .before .before .before .before .before .before .before .before .before .before .before .before .before .before .before .before .before .before .before .before .before .before)) (spoken (c .before .before .before .before .before .before .before .before .before .before .before .before .before .before .before .before .before .before .before .before .before .before .before .before .before .before .before .before)) (first .result) (first .ensures .0) (sym (c .before .before .before .before .before .before .before .before .before .before .before .before .before .before .before .before .before .before .before .is-found .ensures) ∙ c .before .before .before .before .before .before .before .before .before .before .before .before .before .before .before .before .before .before .if3 .left)
+      says-last (phrase start) (columns start) (voiced (c .before .before .before .before .before .before .before .before .before .before .before .before .before .before .before .before .before .before .before .before .before .before .before .before .before .before .before .before .before)) (spoken (c .before .before .before .before .before .before .before .before .before .before .before .before .before .before .before .before .before .before .before .before .before .before .before .before .before .before .before)) (first .result) (first .ensures .0) (sym (c .before .before .before .before .before .before .before .before .before .before .before .before .before .before .before .before .before .before .before .is-found .ensures) ∙ c .before .before .before .before .before .before .before .before .before .before .before .before .before .before .before .before .before .before .if3 .left)
           (added (c .before .before .before .before .before .before .before .before .before .before .before .before .before .before .before .before)) (second .result) (second .ensures .0) (sym (c .before .before .before .before .before .before .before .before .is-found2 .ensures) ∙ c .before .before .before .before .before .before .before .if5 .left) (last .result) (last .ensures .0),
       (last .ensures .1 .0 ∙ second .ensures .1 .0 ∙ first .ensures .1 .0, last .ensures .1 .1 ∙ second .ensures .1 .1 ∙ first .ensures .1 .1),
     )
