@@ -1,2 +1,3 @@
 -- Laws of this layer's definitions.
 mod Tail
+mod Examples
