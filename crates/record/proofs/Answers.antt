@@ -31,11 +31,11 @@ pub accepts : (o : Option Refusal) (there at : Layout) → answer o there ≡ Ac
 accepts none there at e = (refl, cc)
 accepts (some p) there at e = absurd (differ (cc))
 
-pub refused-exactly : (bytes : List ℕ) (q : Refusal) → (checkedOf bytes ≡ Refused q) ↔ (refusalOf bytes ≡ some q)
-refused-exactly bytes q = (given (refusalOf bytes) (layoutOf bytes) q, ap (λ (o : Option Refusal). answer o (layoutOf bytes)))
+pub check-refuses : (bytes : List ℕ) (q : Refusal) → (checkedOf bytes ≡ Refused q) ↔ (refusalOf bytes ≡ some q)
+check-refuses bytes q = (given (refusalOf bytes) (layoutOf bytes) q, ap (λ (o : Option Refusal). answer o (layoutOf bytes)))
 
-pub accepted-exactly : (bytes : List ℕ) (at : Layout) → (checkedOf bytes ≡ Accepted at) ↔ Laid bytes at
-accepted-exactly bytes at = (λ e. let h = accepts (refusalOf bytes) (layoutOf bytes) at e in record { accepted = h .0; layout = h .1 }, λ h. ap (λ (o : Option Refusal). answer o (layoutOf bytes)) (h .accepted) ∙ ap Accepted (sym (h .layout)))
+pub check-accepts : (bytes : List ℕ) (at : Layout) → (checkedOf bytes ≡ Accepted at) ↔ Laid bytes at
+check-accepts bytes at = (λ e. let h = accepts (refusalOf bytes) (layoutOf bytes) at e in record { accepted = h .0; layout = h .1 }, λ h. ap (λ (o : Option Refusal). answer o (layoutOf bytes)) (h .accepted) ∙ ap Accepted (sym (h .layout)))
 
 -- ---- with lent buffers
 
@@ -70,7 +70,7 @@ module _ (bytes : List ℕ) (best back out : ℕ) where
 
   -- the answers of a check with lent buffers, from that of the check without
   pub answer-refused : {r : Checked} (q : Refusal) → r ≡ checkedOf bytes → r ≡ Refused q → Refused q ≡ checkedWith bytes best back out
-  answer-refused q e h = ap (λ (o : Option Refusal). answer o (layoutOf bytes)) (sym (refused-first q (refused-exactly bytes q .0 (sym e ∙ h))))
+  answer-refused q e h = ap (λ (o : Option Refusal). answer o (layoutOf bytes)) (sym (refused-first q (check-refuses bytes q .0 (sym e ∙ h))))
 
   pub answer-short : {at : Layout} → Laid bytes at → shortDesk edition1 (at .candidates .count) best back out ≡ true → Refused Desk ≡ checkedWith bytes best back out
   answer-short h short =

@@ -1,6 +1,6 @@
--- Laws for those above: what a check answers (Answers) and what its rules leave (Chain, Sizes, Entries), what every accepted record
--- has (Accepted) and where its sections stand (Reading), tests and lists by index (Tests, Below), the limits of figures (Figures).
--- The others are steps on the way.
+-- Laws for those above: what a check answers (Answers) and under which conditions (RuleLists, Given), what its rules leave (Chain,
+-- Sizes, Entries), what every accepted record has (Accepted) and where its sections stand (Reading), tests and lists by index (Tests,
+-- Below), the limits of figures (Figures). The others are steps on the way.
 pub mod Tests
 pub mod Sizes
 pub mod Below
@@ -11,4 +11,6 @@ pub mod Figures
 mod Fits
 pub mod Accepted
 pub mod Answers
+pub mod RuleLists
+pub mod Given
 pub mod Reading

@@ -6,7 +6,7 @@ use Rattle.record.specs.Accepted.{Laid}
 use Rattle.record.specs.declared.limits.Limits.{Limits}
 use Rattle.record.proofs.Sizes.{moderate}
 use Rattle.record.proofs.Accepted.{counts}
-use Rattle.record.proofs.Answers.{accepted-exactly, answer-refused, answer-short, answer-fine}
+use Rattle.record.proofs.Answers.{check-accepts, answer-refused, answer-short, answer-fine}
 use denote.Ref.{now}
 use Prim.Native.Nat.{_≤_}
 use borrow.Author.Needs.{needs}
@@ -27,7 +27,7 @@ edition-1-requires c κs = search needs
 
 -- the record is accepted, with this layout
 laid : (c : tie.After-checked2) → Laid (now (c .before .before .before .before .args .bytes)) (c .checked2 .given .0 .0)
-laid c = accepted-exactly _ _ .0 (sym (c .before .before .check .ensures) ∙ c .checked2 .given .1)
+laid c = check-accepts _ _ .0 (sym (c .before .before .check .ensures) ∙ c .checked2 .given .1)
 
 short-desk-requires : tie.Need-short-desk-requires
 short-desk-requires c κs = (
