@@ -15,11 +15,11 @@ use Rattle.record.specs.Bytes.{u32At, u64At}
 use Rattle.record.specs.Below.{anyBelow, listed}
 use Rattle.record.specs.Layout.{trailerOf, layoutFrom, layoutOf}
 use Rattle.record.specs.Conditions.{oversized, overreaching, badTrack, badCost, shortest, tableEntries}
-use Rattle.record.specs.Refusals.{firstOf, candidateRules, firstRules, ownRules, refusalOf}
+use Rattle.record.specs.Refusals.{firstOf, candidateRules, firstRules, ownRules, refusalOf, refusalWith}
 use Rattle.record.specs.Meaning.{phraseAt, phraseOf}
 use Rattle.sample.specs.Sample.{sample}
 use Rattle.record.specs.declared.refusal.Refusal.{Refusal}
-use Rattle.record.specs.declared.refusal.Refusal.the-variants.{Stub, Edition, Size, Reach, Track, Cost, Bare, Twice, Units, Column}
+use Rattle.record.specs.declared.refusal.Refusal.the-variants.{Stub, Edition, Size, Reach, Track, Cost, Bare, Twice, Units, Column, Desk}
 
 pub long : length sample ≡ 1376
 unfolding sample
@@ -112,6 +112,11 @@ pub no-column : refusalOf (set sample 1356 0) ≡ some Size
 unfolding checks
 no-column = refl
 
+-- D = 1 with A = 0
+pub added-boundary-alone : refusalOf (set sample 1348 1) ≡ some Size
+unfolding checks
+added-boundary-alone = refl
+
 -- a mask pointer of 1,313, one more than the bytes before the trailer
 pub before-the-record : refusalOf (set sample 1320 33) ≡ some Reach
 unfolding checks
@@ -126,6 +131,16 @@ half-voiced = refl
 pub equal-boundaries : refusalOf (set sample 28 4) ≡ some Track
 unfolding checks
 equal-boundaries = refl
+
+-- a speech start of 4,294,967,295, and an end of 14
+pub start-alone : refusalOf (set (set (set (set sample 104 255) 105 255) 106 255) 107 255) ≡ some Track
+unfolding checks
+start-alone = refl
+
+-- a speech end of 4,294,967,295, and a start of 4
+pub end-alone : refusalOf (set (set (set (set sample 108 255) 109 255) 110 255) 111 255) ≡ some Track
+unfolding checks
+end-alone = refl
 
 -- a score of 2.55 × 10^38
 pub huge-score : refusalOf (set sample 35 127) ≡ some Cost
@@ -151,3 +166,40 @@ seventeen-units = refl
 pub second-column : refusalOf (set sample 44 1) ≡ some Column
 unfolding checks
 second-column = refl
+
+-- ---- "tested candidate by candidate"
+
+-- column 1 in the first candidate, and its id again in the second: 10, not 8
+pub first-candidate-first : refusalOf (set (set sample 44 1) 60 9) ≡ some Column
+unfolding checks
+first-candidate-first = refl
+
+-- within one candidate, its id again and 17 units: 8, not 9
+pub id-first : refusalOf (set (set sample 60 9) 64 17) ≡ some Twice
+unfolding checks
+id-first = refl
+
+-- ---- lent buffers
+
+-- work areas of 1,088 cells and an output of 2 × 52 words do
+pub room-enough : refusalWith sample 1088 1088 104 ≡ none
+unfolding checks refusalWith
+room-enough = refl
+
+-- one element fewer in the first work area, in the second, in the output
+pub short-best : refusalWith sample 1087 1088 104 ≡ some Desk
+unfolding checks refusalWith
+short-best = refl
+
+pub short-back : refusalWith sample 1088 1087 104 ≡ some Desk
+unfolding checks refusalWith
+short-back = refl
+
+pub short-out : refusalWith sample 1088 1088 103 ≡ some Desk
+unfolding checks refusalWith
+short-out = refl
+
+-- with no buffers at all, the record's own refusal comes first
+pub record-first : refusalWith (set sample 44 1) 0 0 0 ≡ some Column
+unfolding checks refusalWith
+record-first = refl
