@@ -1,7 +1,8 @@
 -- The cell rule on small problems, by computation: what it does with equal values, which the optimality theorem leaves open.
 use Prim.Native.Nat.{ℕ}
+use mathlib.Core.Bool.{cond}
 use mathlib.Core.Path.{_≡_, refl, ap}
-use lib.Dec.{ltb}
+use lib.Dec.{ltb, eqb}
 use lib.Ieee.{Float, binary64, lt, add, sub, ofBits, neg, ofInt}
 use lib.IntN.{pos}
 use Rattle.paths.specs.Problem.{Problem}
@@ -50,3 +51,19 @@ greater-gap = refl
 pub no-boundaries : (q : Problem) (k : ℕ) → q .size ≡ 0 → chosenPath q k ≡ empty
 unfolding chosenPath best
 no-boundaries q k e = ap (λ n. best (λ p r. lt (sum q p) (sum q r)) n (rows q (paths q) k)) e
+
+-- Two boundaries, and no unit: a path from the first has the sum -0, one from the second +0.
+pub two-zeros : Problem
+two-zeros = record {
+  size = 2;
+  start = λ j. cond (eqb j 0) (neg nought) nought;
+  gapCost = λ j. nought;
+  unitOk = ltb;
+  unitValue = λ s i j. nought;
+  stopCost = λ j. nought;
+}
+
+-- the two are equal, so the lower boundary stands, and its sum keeps its sign
+pub lower-zero : (chosenPath two-zeros 0 ≡ held (begin 0)) × (sum two-zeros (begin 0) ≡ neg nought)
+unfolding chosenPath sum two-zeros nought lt add sub neg ofBits
+lower-zero = (refl, refl)

@@ -25,3 +25,4 @@ pub mod Finite
 pub mod PhraseFigures
 pub mod Answers
 pub mod PhraseExamples
+pub mod FrameExamples

@@ -136,6 +136,14 @@ added-stage : chosen
 unfolding worked
 added-stage = refl
 
+-- "Both stages count the record's nuclei here": after the unit comes a nucleus that is no anchor of the added stage, at insertion_llr 1
+nuclei-counted : chosen
+    (phraseOf (replicate 10 1) (stageOf (9 ∷ []) 0 [] (λ frames. nought)) (stageOf (3 ∷ []) 1 (2 ∷ 8 ∷ []) (λ frames. nought)) (spoken 0 10)
+    (λ row. nought) nought (fin false 1 (pos 0)) nought)
+    (0 ∷ []) ≡ found CountStrict (unit (begin 0) 1) (fin false 1 (pos 0))
+unfolding worked
+nuclei-counted = refl
+
 -- its anchor on a 0 byte is dropped, and the nuclei are not searched relaxed
 added-relaxed : chosen
     (zeroed (1 ∷ 1 ∷ 0 ∷ replicate 9 1) (stageOf (11 ∷ []) 0 (0 ∷ 6 ∷ []) (λ frames. nought)) (stageOf (2 ∷ []) 1 (0 ∷ 6 ∷ []) (λ frames. nought)) (spoken 0 12))
