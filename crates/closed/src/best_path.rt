@@ -70,7 +70,7 @@ pub fn fill_rows<'a>(
     }
 }
 
-// The path chosen, "the one that the cell rule keeps" (document 01), or that there is none. The work areas end as they came.
+// The path chosen, "the one that the cell rule below keeps" (document 01), or that there is none. The work areas end as they came.
 pub fn best_path<'a>(
     best: &mut [f64],
     back: &mut [u32],

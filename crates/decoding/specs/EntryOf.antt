@@ -50,7 +50,7 @@ unfoldable pub entryBy : Search → Phrase → Candidate → Entry
 unfolding entryFor
 entryBy search phrase candidate = entryFor phrase candidate (search phrase (candidate .columns))
 
--- "The path chosen, for a pass and a count, is the one that the cell rule keeps."
+-- "The path chosen, for a pass and a count, is the one that the cell rule below keeps."
 abbrev pub entryOf : Phrase → Candidate → Entry
 entryOf = entryBy chosen
 

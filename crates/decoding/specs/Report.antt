@@ -16,7 +16,7 @@ use Rattle.frames.specs.declared.span.Span.{Span}
 use Rattle.clip.specs.Clip.{Placed, anchored, unanchored, reported}
 use Rattle.entries.specs.Entry.{ReportedUnit, noRow}
 
--- the stage that a pass searches
+-- the stage that a pass searches, as in "by its own stage's boundaries"
 abbrev pub stageOf : Phrase → Pass → Stage
 stageOf phrase NucleiStrict = phrase .nuclei
 stageOf phrase CountStrict = phrase .added
@@ -32,7 +32,8 @@ abbrev pub highEdge : Speech → ℕ
 highEdge silent = 0
 highEdge (spoken start end) = end
 
--- The span of an anchor's row, among all frames that the stage lists: those outside the mask are dropped from the search only.
+-- "A unit with an anchor reports its row's span, by its own stage's boundaries": among all frames that the stage lists, since those
+-- outside the mask are dropped from the search only.
 unfoldable pub rowSpan : Phrase → Stage → ℕ → Span
 unfolding spanOf
 rowSpan phrase stage frame = spanOf (stage .anchors) (stage .boundaries) (lowEdge (phrase .speech)) (highEdge (phrase .speech)) frame

@@ -7,7 +7,7 @@ use lib.Ieee.{Float, nan, inf, fin, binary32, up, down, round, lt, isNan}
 use Rattle.ieee.specs.Value.{Within}
 use Rattle.ieee.specs.TotalOrder.{Comparable}
 
--- The f32 nearest to a value, a tie to the one with an even last digit. An infinity, a NaN and the sign stay.
+-- "nearest-even to f32": the f32 nearest to a value, a tie to the one with an even last digit. An infinity, a NaN and the sign stay.
 unfoldable pub narrowed : Float → Float
 narrowed nan = nan
 narrowed (inf s) = inf s
@@ -25,10 +25,11 @@ highest = fin false 15625 (pos 6)
 abbrev pub lowest : Float
 lowest = fin true 15625 (pos 6)
 
--- Clamped to ±1,000,000. NaN, which no sum here is, reads as the lower bound (`clamp_log`, ruling R12).
+-- Clamped to ±1,000,000. NaN, which no sum here is, reads as the lower bound (`clamp_log` of the Rust, which calls it "ruling R12").
 unfoldable pub clamped : Float → Float
 clamped v = cond (isNan v) lowest (cond (lt v lowest) lowest (cond (lt highest v) highest v))
 
+-- "the sum clamped to ±1,000,000, then nearest-even to f32"
 unfoldable pub clampedLog : Float → Float
 clampedLog v = narrowed (clamped v)
 

@@ -16,7 +16,7 @@ unfoldable pub select : (Anchor → Bool) → List Anchor → List Anchor
 select test [] = []
 select test (anchor ∷ anchors) = let rest = select test anchors in cond (test anchor) (anchor ∷ rest) rest
 
--- A row is the anchor's place in its list, counted from the first row of the stage.
+-- "Rows are nuclei, then anchors": a row is the anchor's place in its list, counted from the first row of the stage.
 unfoldable pub numbered : ℕ → List ℕ → List Anchor
 numbered row [] = []
 numbered row (frame ∷ frames) = record { frame = frame; row = row } ∷ numbered (suc row) frames

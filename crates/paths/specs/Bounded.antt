@@ -1,5 +1,6 @@
--- Whole-number bounds on the figures of a phrase, from which all its sums are finite. Nothing here says how large the bounds
--- are, but that there is room for them: an f64 counts whole numbers without a gap up to 2 ^ 53.
+-- Whole-number bounds on the figures of a phrase, from which all its sums are finite. The bounds are
+-- parameters that have to leave room, since an f64 counts whole numbers without a gap up to 2 ^ 53; the last definition has those of
+-- document 01.
 use Prim.Native.Nat.{ℕ, suc, _+_, _*_, _^_, _≤_, _<_}
 use mathlib.Core.List.{List}
 use lib.Dec.{T}

@@ -2,7 +2,7 @@
 use Prim.Native.Nat.{ℕ, suc, _+_, _<_}
 use mathlib.Core.Path.{_≡_}
 use mathlib.Core.List.{List, [], _∷_, _++_}
-use lib.Ieee.{Float, binary64, add, sub, lt, ofBits}
+use lib.Ieee.{Float, binary64, add, sub, lt}
 use Rattle.paths.specs.Problem.{Problem}
 use Rattle.paths.specs.Path.{Path, begin, gap, unit, end, value, sum}
 use Rattle.paths.specs.Cell.{Cell, empty, held, best, carry}
@@ -22,11 +22,7 @@ markOf (unit p j) = 3 + end p
 abbrev pub marked : Problem → Path → Marked
 marked q p = record { value = value q p; mark = markOf p }
 
--- The two numbers of a cell in the work areas: both are 0 where nothing reached it.
-unfoldable pub valueAt : Cell Marked → Float
-valueAt empty = ofBits binary64 0
-valueAt (held a) = a .value
-
+-- the mark of a cell in the work area: 0 where nothing reached it
 unfoldable pub markAt : Cell Marked → ℕ
 markAt empty = 0
 markAt (held a) = a .mark

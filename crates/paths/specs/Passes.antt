@@ -17,7 +17,8 @@ passNumber CountStrict = 1
 passNumber CountRelaxed = 2
 passNumber NucleiRelaxed = 3
 
--- the paths of a pass, for a candidate's columns
+-- "A pass admits exactly these paths: over the boundaries and kept anchors of its stage": the problem of a pass, for a candidate's
+-- columns
 abbrev pub passProblem : Phrase → Pass → List ℕ → Problem
 passProblem phrase NucleiStrict columns = problemOf phrase (phrase .nuclei) Strict columns
 passProblem phrase CountStrict columns = problemOf phrase (phrase .added) Strict columns
@@ -33,7 +34,7 @@ abbrev pub nonEmpty {ℓ} : {A : Type ℓ} → List A → Bool
 nonEmpty [] = false
 nonEmpty (x ∷ xs) = true
 
--- whether a nucleus is within the mask
+-- demand 3: "a nucleus in its mask"
 unfoldable pub hasNucleus : Phrase → Bool
 hasNucleus phrase = nonEmpty (kept phrase (phrase .nuclei))
 

@@ -43,13 +43,13 @@ unfoldable pub sum : Problem → Path → Float
 unfolding value end
 sum q p = sub binary64 (value q p) (q .stopCost (end p))
 
--- A path that a problem admits, of the count asked for, such that every admitted path of that count has a sum at most as large.
--- `le` compares as numbers: the two zeros are equal.
+-- Demand 3: "It admits the path chosen, and every other path that it admits for that count has a left-to-right f64 sum at most as
+-- large." `le` compares "as numbers: the two zeros are equal".
 pub record Best (q : Problem) (k : ℕ) (p : Path) : Type 0 where
   pub admitted : Admitted q p
   pub counted : count p ≡ k
   pub largest : (r : Path) → Admitted q r → count r ≡ k → T (le (sum q r) (sum q p))
 
--- No path of that count is admitted.
+-- Demand 3, of one pass: "no pass admits a path of that count".
 unfoldable pub NoPath : Problem → ℕ → Type 0
 NoPath q k = (p : Path) → Admitted q p → count p ≡ k → ⊥

@@ -29,7 +29,7 @@ searchBy rule phrase columns (pass ∷ others) =
     let later = searchBy rule phrase columns others in
     orElse pass (passProblem phrase pass columns) (rule (passProblem phrase pass columns) (length columns)) later
 
--- "The path chosen, for a pass and a count, is the one that the cell rule keeps."
+-- "The path chosen, for a pass and a count, is the one that the cell rule below keeps."
 unfoldable pub chosen : Phrase → List ℕ → Answer
 unfolding searchBy passes chosenPath
 chosen phrase columns = searchBy chosenPath phrase columns (passes phrase)

@@ -23,7 +23,7 @@ maskAt bytes s = listed (λ i. byteAt bytes (s .start + i)) (s .count)
 abbrev pub framesAt : List ℕ → Section → List ℕ
 framesAt bytes s = listed (frameAt bytes s) (s .count)
 
--- the entry for a unit of so many frames, of the table that starts there
+-- "75 f64 for 6 to 80 frames": the entry for a unit of so many frames, of the table that starts there
 abbrev pub durationAt : List ℕ → ℕ → ℕ → Float
 durationAt bytes table frames = f64At bytes (table + 8 * (frames - shortest))
 
@@ -31,6 +31,7 @@ durationAt bytes table frames = f64At bytes (table + 8 * (frames - shortest))
 abbrev pub scoreAt : List ℕ → Section → ℕ → ℕ → Float
 scoreAt bytes s row column = f32At bytes (s .start + 4 * (row * s .count + column))
 
+-- "u32 id, u32 unit count k, sixteen column bytes of which the first k are used"
 abbrev pub candidateAt : Limits → List ℕ → Layout → ℕ → Candidate
 candidateAt l bytes at i = record { id = idAt l bytes at i; columns = listed (columnAt l bytes at i) (unitsAt l bytes at i) }
 

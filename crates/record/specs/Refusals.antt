@@ -14,7 +14,7 @@ use Rattle.record.specs.declared.refusal.Refusal.the-variants.{Stub, Edi
 use Rattle.record.specs.declared.refusal.Checked.{Checked}
 use Rattle.record.specs.declared.refusal.Checked.the-variants.{Refused, Accepted}
 
--- the numbers of the table
+-- the numbers of the table "What the decoder says no with"
 abbrev pub numberOf : Refusal → ℕ
 numberOf Stub = 1
 numberOf Edition = 2
