@@ -6,6 +6,7 @@ use mathlib.Core.Option.{Option, none, some}
 use mathlib.Core.Path.{_≡_, refl, ap, _∙_}
 use native.Mathlib.Numerals.{add-one}
 use native.Mathlib.Omega.{arith}
+use Rattle.laws.proofs.Choices.{taken, passed}
 use Rattle.record.specs.Layout.{layoutOf}
 use Rattle.record.specs.Conditions.{repeated, badUnits, badColumn}
 use Rattle.record.specs.Refusals.{firstOf, candidateRules}
@@ -13,7 +14,6 @@ use Rattle.record.specs.declared.limits.Limits.{Limits}
 use Rattle.record.specs.declared.layout.Layout.{Layout}
 use Rattle.record.specs.declared.refusal.Refusal.{Refusal}
 use Rattle.record.specs.declared.refusal.Refusal.the-variants.{Twice, Units, Column}
-use Rattle.record.proofs.Tests.{taken, passed}
 
 -- what the rules of the candidates from i up to n find
 abbrev pub rest : Limits → List ℕ → ℕ → ℕ → Option Refusal
@@ -47,15 +47,15 @@ module _ (l : Limits) (bytes : List ℕ) (n : ℕ) where
     one-rest = ap (one l bytes n i) is ∙ step i below
 
     pub first-twice : repeated l bytes at i ≡ true → some Twice ≡ rest l bytes n i
-    first-twice h = taken (repeated l bytes at i) _ _ h ∙ one-rest
+    first-twice h = taken _ h ∙ one-rest
 
     pub first-units : repeated l bytes at i ≡ false → badUnits l bytes at i ≡ true → some Units ≡ rest l bytes n i
-    first-units f h = passed (repeated l bytes at i) _ _ f (taken (badUnits l bytes at i) _ _ h) ∙ one-rest
+    first-units f h = passed _ f (taken _ h) ∙ one-rest
 
     pub first-column : repeated l bytes at i ≡ false → badUnits l bytes at i ≡ false → badColumn l bytes at i ≡ true → some Column ≡ rest l bytes n i
     first-column f g h =
-        passed (repeated l bytes at i) _ _ f (passed (badUnits l bytes at i) _ _ g (taken (badColumn l bytes at i) _ _ h)) ∙ one-rest
+        passed _ f (passed _ g (taken _ h)) ∙ one-rest
 
     pub first-later : repeated l bytes at i ≡ false → badUnits l bytes at i ≡ false → badColumn l bytes at i ≡ false → rest l bytes n (i + 1) ≡ rest l bytes n i
     first-later f g h =
-        passed (repeated l bytes at i) _ _ f (passed (badUnits l bytes at i) _ _ g (passed (badColumn l bytes at i) _ _ h refl)) ∙ one-rest
+        passed _ f (passed _ g (passed _ h refl)) ∙ one-rest

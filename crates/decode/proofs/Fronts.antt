@@ -5,8 +5,8 @@ use mathlib.Core.Path.{_≡_, refl, sym, ap, _∙_}
 use native.Mathlib.Omega.{arith}
 use lib.ListN.{length, take, drop, replicate, length-map}
 use lib.Seq.{take-append-seam, drop-append-seam, length-take-le}
-use Rattle.stages.specs.Listed.{padded, listed, tableOf}
-use Rattle.stages.proofs.Listed.{length-listed, length-table}
+use Rattle.laws.proofs.Listed.{length-listed, length-table}
+use Rattle.laws.specs.Listed.{padded, listed, tableOf}
 use Rattle.clip.specs.Clip.{reported, startsOf, endsOf}
 use Rattle.clip.specs.Units.{unitsFrom, unitsOf, Alike, Clipped}
 use Rattle.frames.specs.declared.span.Span.{Span}

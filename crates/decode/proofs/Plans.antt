@@ -8,6 +8,7 @@ use borrow.Author.Tests.{eq-eqb, ne-eqb}
 use lib.Dec.{eqb}
 use lib.Ieee.{Float}
 use lib.ListN.{length}
+use Rattle.laws.proofs.Listed.{length-listed}
 use Rattle.phrase.specs.Phrase.{Phrase}
 use Rattle.paths.specs.Anchors.{keptIn}
 use Rattle.paths.specs.Passes.{nonEmpty, hasNucleus}
@@ -15,7 +16,6 @@ use Rattle.record.specs.Meaning.{phraseOf}
 use Rattle.record.specs.Accepted.{Laid}
 use Rattle.record.specs.declared.layout.Layout.{Layout}
 use Rattle.record.specs.declared.read.Which.the-variants.{Count}
-use Rattle.record.proofs.Below.{length-listed}
 use Rattle.record.proofs.Reading.{anchors-are}
 use Rattle.prepare.proofs.Parts.{nuclei-first}
 use Rattle.closed.specs.Answered.{BothLent}

@@ -8,7 +8,9 @@ use native.Mathlib.Omega.{arith}
 use lib.Dec.{eqb}
 use lib.Ieee.{Float}
 use lib.ListN.{length, getD, drop, replicate, length-map, length-replicate, List·getD-append, List·getD-map, length-append}
-use lib.Seq.{ext-getD, getD-take, getD-drop}
+use lib.Seq.{getD-take, getD-drop}
+use Rattle.laws.proofs.Listed.{length-listed, getD-listed, padded-in, length-padded, table-at, length-table}
+use Rattle.laws.specs.Listed.{padded, listed}
 use Rattle.phrase.specs.Phrase.{Phrase, Stage}
 use Rattle.paths.specs.declared.passes.Strictness.{Strictness}
 use Rattle.paths.specs.Frames.{Increasing}
@@ -18,8 +20,6 @@ use Rattle.paths.specs.StageProblem.{boundary}
 use Rattle.paths.specs.Marks.{Bounds}
 use Rattle.stages.specs.Tables.{StageTables}
 use Rattle.stages.specs.Tables.{Tabled, beyond, tableAt, tablesIn}
-use Rattle.stages.specs.Listed.{padded, listed, tableOf}
-use Rattle.stages.proofs.Listed.{length-listed, listed-at, padded-in, length-padded, table-at, length-table}
 use Rattle.rows.specs.declared.trace.Units.{Units}
 use Rattle.rows.specs.Traced.{firstsOf, lastsOf, UnitsAre}
 use Rattle.rows.specs.Traced as Traced
@@ -159,7 +159,7 @@ module _ {phrase : Phrase} {stage : Stage} {strictness : Strictness} {words : Li
       column figure = listed (λ i. figure (placeAt words units i)) (length bs)
 
       at : (figure : PlacedUnit → ℕ) (i : ℕ) → i < length bs → getD (column figure) (0 + i) 0 ≡ figure (place (unit i))
-      at figure i h = ap (λ (n : ℕ). getD (column figure) n 0) (zero-add i) ∙ listed-at _ (length bs) 0 i h ∙ ap figure (place-is i h)
+      at figure i h = ap (λ (n : ℕ). getD (column figure) n 0) (zero-add i) ∙ getD-listed _ (length bs) i 0 h ∙ ap figure (place-is i h)
 
       told : ℕ → ℕ → ℕ → Placed
       told start end row = let span : Span = record { start = start; end = end } in cond (eqb row noRow) (unanchored span) (anchored span)

@@ -7,9 +7,9 @@ use lib.Dec.{ltb}
 use lib.IntN.{pos}
 use lib.ListN.{length, getD, replicate}
 use lib.Ieee.{Float, binary32, mul, ofInt}
+use Rattle.laws.specs.Listed.{padded, listed, tableOf}
 use Rattle.entries.specs.Entry.{ReportedUnit, noRow}
 use Rattle.entries.specs.EntryFrom.{unitAt}
-use Rattle.stages.specs.Listed.{padded, listed, tableOf}
 use Rattle.clip.specs.Clip.{Placed, reported, startsOf, endsOf}
 use Rattle.clip.specs.Units.{unitsOf}
 use Rattle.rows.specs.declared.trace.Units.{Units}

@@ -7,6 +7,7 @@ use native.Mathlib.Omega.{arith}
 use lib.Dec.{T}
 use lib.ListN.{length, getD}
 use lib.Ieee.{binary64}
+use Rattle.laws.proofs.Listed.{length-listed}
 use Rattle.ieee.specs.Value.{Within}
 use Rattle.ieee.proofs.Magnitude.{within-widens}
 use Rattle.phrase.specs.Phrase.{Stage, Candidate}
@@ -18,7 +19,6 @@ use Rattle.record.specs.Layout.{layoutOf}
 use Rattle.record.specs.Refusals.{refusalOf}
 use Rattle.record.specs.Meaning.{phraseAt, phraseOf}
 use Rattle.record.specs.Accepted.{CandidateFit, Fit}
-use Rattle.record.proofs.Below.{length-listed}
 use Rattle.record.proofs.Accepted.{fit}
 
 some-anchor : (frames : List ℕ) → T (nonEmpty frames) → 0 < length frames

@@ -7,6 +7,8 @@ use mathlib.Core.Path.{_≡_, refl, sym, subst, _∙_}
 use borrow.Author.Tests.{ltb-false}
 use lib.Dec.{ltb}
 use lib.ListN.{length}
+use Rattle.laws.proofs.Listed.{length-listed}
+use Rattle.laws.proofs.Choices.{neither-left, neither-right}
 use Rattle.record.specs.Edition.{edition1}
 use Rattle.record.specs.Layout.{layoutOf}
 use Rattle.record.specs.Conditions.{shortDesk}
@@ -17,8 +19,6 @@ use Rattle.record.specs.declared.layout.Layout.{Layout}
 use Rattle.record.specs.declared.refusal.Refusal.{Refusal}
 use Rattle.record.specs.declared.refusal.Refusal.the-variants.{Desk}
 use Rattle.record.specs.declared.refusal.Checked.the-variants.{Refused, Accepted}
-use Rattle.record.proofs.Tests.{or-left, or-right}
-use Rattle.record.proofs.Below.{length-listed}
 use Rattle.record.proofs.Answers.{given, accepts, refused-first, desk-last}
 
 -- M by the layout is M by the phrase
@@ -61,11 +61,11 @@ module _ (bytes : List ℕ) (best back out : ℕ) where
       let few-marks = ltb back (edition1 .«work_cells») in
       let few-words = ltb out (count * edition1 .«entry_words») in
       let long = long-enough (h .0) in
-      let cells = or-left (few-values || few-marks) few-words long in
+      let cells = neither-left (few-values || few-marks) few-words long in
       record {
         none-given = h .0;
         laid = record { accepted = own-rules (h .0); layout = h .1 };
-        values = ltb-false best (edition1 .«work_cells») (or-left few-values few-marks cells);
-        marks = ltb-false back (edition1 .«work_cells») (or-right few-values few-marks cells);
-        words = subst (λ (m : ℕ). m * edition1 .«entry_words» ≤ out) (sym (candidates-counted bytes)) (ltb-false out (count * edition1 .«entry_words») (or-right (few-values || few-marks) few-words long));
+        values = ltb-false best (edition1 .«work_cells») (neither-left few-values few-marks cells);
+        marks = ltb-false back (edition1 .«work_cells») (neither-right few-values few-marks cells);
+        words = subst (λ (m : ℕ). m * edition1 .«entry_words» ≤ out) (sym (candidates-counted bytes)) (ltb-false out (count * edition1 .«entry_words») (neither-right (few-values || few-marks) few-words long));
       }

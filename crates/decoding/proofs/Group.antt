@@ -8,6 +8,7 @@ use lib.ListN.{length, replicate, drop}
 use lib.IntN.{pos, negsuc}
 use lib.Count.{trailingZeros}
 use lib.Ieee.{Float, fin, binary32, binary64, toBits, add, sub, mul, neg, ofInt, lt, round, ofBits, ofFields, isNan}
+use Rattle.laws.specs.Listed.{listed}
 use Rattle.ieee.specs.Convert.{clamped, narrowed, clampedLog}
 use Rattle.ieee.specs.TotalOrder.{totalBefore}
 use Rattle.phrase.specs.Phrase.{Phrase, Stage, Candidate, Speech, spoken}
@@ -28,7 +29,6 @@ use Rattle.frames.specs.declared.span.Span.{Span}
 use Rattle.clip.specs.Clip.{anchored, unanchored, reported}
 use Rattle.clip.proofs.Examples as clip
 use Rattle.record.specs.Bytes.{u32At, u64At}
-use Rattle.record.specs.Below.{listed}
 use Rattle.record.specs.Edition.{edition1}
 use Rattle.record.specs.Layout.{trailerOf, layoutFrom, layoutOf}
 use Rattle.record.specs.Conditions.{shortDesk}

@@ -6,11 +6,11 @@ use native.Mathlib.Nat.{le-of-suc-le-suc, mul-one, mul-comm, mul-pos, zero-lt-su
 use native.Mathlib.Omega.{arith}
 use mathlib.Core.Bool.{Bool, true, false, not, cond}
 use lib.Dec.{T, leb, eqb, eqb→eq, not-T}
-use lib.Arith.{lt→nleb, lt-of-le-ne}
+use lib.Arith.{lt→nleb, le→nltb, lt-of-le-ne}
 use lib.Pow.{pow-pos}
-use lib.Ieee.{Float, nan, inf, Format, prec, low, odd, neg, le, hid, ones, top, ofFields, ofBits}
+use lib.Ieee.{Float, nan, inf, Format, prec, low, odd, neg, le, hid, ones, top, ofFields, ofBits, nanBits}
 use lib.Ieee.Fits.{eq→eqb}
-use lib.Ieee.Bits.{is-false, cond-no, ofBits-fits}
+use lib.Ieee.Bits.{is-false, cond-no, ofBits-fits, nanBits-above}
 use lib.Ieee.Exact.{HasValue, odd-sign}
 use lib.Ieee.Scale.{finite}
 use Rattle.ieee.specs.Value.{one, mag, over, under, Real}
@@ -22,6 +22,10 @@ use Rattle.ieee.proofs.Weight.{weigh, weight, weight-le}
 
 pub hid-pos : (f : Format) → 0 < hid f
 hid-pos f = pow-pos (prec f - 1)
+
+-- a pattern whose magnitude is an infinity's at most is no NaN's
+pub number-bits : (f : Format) (b : ℕ) → b % top f ≤ ones f * hid f → T (not (nanBits f b))
+number-bits f b h = subst (λ (t : Bool). T (not t)) (sym (nanBits-above f b)) (le→nltb (ones f * hid f) (b % top f) h)
 
 not-ones : (f : Format) (x : ℕ) → x < ones f → T (not (eqb x (ones f)))
 not-ones f x l = not-T (eqb x (ones f)) (λ t. omega (arith, eqb→eq x (ones f) t))

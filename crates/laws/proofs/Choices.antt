@@ -3,11 +3,6 @@
 use mathlib.Core.Bool.{Bool, true, false, _&&_, _||_, cond, true≢false, false≢true}
 use mathlib.Core.Path.{_≡_, refl}
 
--- no test both passes and fails
-pub not-both {ℓ} : {A : Type ℓ} {b : Bool} → b ≡ true → b ≡ false → A
-not-both {b = true} e f = absurd (true≢false f)
-not-both {b = false} e f = absurd (false≢true e)
-
 -- where a disjunction fails, both its halves do
 pub neither-left : (a b : Bool) → (a || b) ≡ false → a ≡ false
 neither-left true b e = e
@@ -31,10 +26,14 @@ pub or-rest : (a b : Bool) → a ≡ false → b ≡ (a || b)
 or-rest true b e = absurd (true≢false e)
 or-rest false b e = refl
 
--- where a conjunction passes, its first half does
+-- where a conjunction passes, both its halves do
 pub and-left : (a b : Bool) → (a && b) ≡ true → a ≡ true
 and-left true b e = refl
 and-left false b e = e
+
+pub and-right : (a b : Bool) → (a && b) ≡ true → b ≡ true
+and-right true b e = e
+and-right false b e = absurd (false≢true e)
 
 -- where it fails though its first half passes, its second half fails
 pub and-fails : (a b : Bool) → (a && b) ≡ false → a ≡ true → b ≡ false

@@ -5,3 +5,4 @@ pub mod Numbers
 pub mod Lists
 pub mod Stores
 pub mod Listed
+pub mod Filling

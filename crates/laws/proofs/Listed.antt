@@ -1,13 +1,14 @@
 -- Lists by their entries, and arrays that are filled from the front: one more entry, and what stands where. Assumes nothing.
 use Prim.Native.Nat.{ℕ, zero, suc, _+_, _-_, _≤_, _<_, suc-le-suc}
 use mathlib.Core.Path.{_≡_, refl, sym, ap, ap₂, _∙_}
-use mathlib.Core.List.{List, [], _∷_, _++_, append-assoc}
+use mathlib.Core.List.{List, [], _∷_, _++_, append-assoc, append-nil}
 use native.Mathlib.Nat.{sub-zero, not-suc-le-zero, le-of-suc-le-suc, zero-lt-suc}
 use native.Mathlib.Numerals.{add-one}
 use native.Mathlib.Omega.{arith}
-use lib.ListN.{length, getD, set, replicate, length-append, length-replicate, getD-replicate, List·getD-append}
-use lib.Seq.{set-append-seam, getD-append-add}
-use Rattle.laws.specs.Listed.{listed, padded, tableOf}
+use lib.ListN.{length, getD, drop, set, replicate, length-append, length-drop, length-replicate, getD-replicate, List·getD-append, drop-of-length-le}
+use lib.Seq.{set-append-seam, getD-append-add, drop-cons, drop-length, set-at}
+use Rattle.laws.specs.Listed.{listed, padded, tableOf, written}
+use Rattle.laws.proofs.Lists.{drop-replicate}
 
 module _ {ℓ} {A : Type ℓ} where
   -- ---- the values of a function
@@ -93,3 +94,48 @@ module _ {ℓ} {A : Type ℓ} where
 
   pub table-same : (f g : ℕ → A) (n size : ℕ) (spare : A) → ((i : ℕ) → i < n → f i ≡ g i) → tableOf f n size spare ≡ tableOf g n size spare
   table-same f g n size spare h = ap (λ (l : List A). padded l size spare) (listed-same f g n h)
+
+  -- ---- the values of a function, written over the front of a list
+
+  pub written-none : (f : ℕ → A) (old : List A) → old ≡ written f 0 old
+  unfolding listed
+  written-none f old = refl
+
+  pub written-more : (f : ℕ → A) (n : ℕ) (old : List A) → n < length old → set (written f n old) n (f n) ≡ written f (n + 1) old
+  written-more f n old h =
+      ap (λ (l : List A). set (listed f n ++ l) n (f n)) (drop-cons old n (f n) h)
+      ∙ set-at (listed f n) (getD old n (f n)) (drop (suc n) old) (f n) n (length-listed f n)
+      ∙ sym (append-assoc (listed f n) (f n ∷ []) (drop (suc n) old))
+      ∙ ap (λ (l : List A). l ++ drop (suc n) old) (sym (listed-more f n))
+      ∙ ap (λ (m : ℕ). written f m old) (sym (add-one n))
+
+  pub written-at : (f : ℕ → A) (n : ℕ) (old : List A) (d : A) (i : ℕ) → i < n → getD (written f n old) i d ≡ f i
+  written-at f n old d i h = List·getD-append (listed f n) (drop n old) d i (omega (arith, length-listed f n)) ∙ getD-listed f n i d h
+
+  pub length-written : (f : ℕ → A) (n : ℕ) (old : List A) → n ≤ length old → length (written f n old) ≡ length old
+  length-written f n old h = length-append (listed f n) (drop n old) ∙ omega (arith, length-listed f n, length-drop n old)
+
+  -- what is written over spare values is a table
+  pub written-table : (f : ℕ → A) (n size : ℕ) (spare : A) → written f n (replicate size spare) ≡ tableOf f n size spare
+  unfolding padded
+  written-table f n size spare =
+      ap (λ (ys : List A). listed f n ++ ys)
+      (drop-replicate n size spare ∙ ap (λ (m : ℕ). replicate (size - m) spare) (sym (length-listed f n)))
+
+  -- what is written over the whole list is a table with no spare entry
+  pub written-full : (f : ℕ → A) (n : ℕ) (spare : A) (old : List A) → length old ≡ n → written f n old ≡ tableOf f n n spare
+  unfolding padded
+  written-full f n spare old e =
+      let short : length old ≤ n = omega arith in
+      let none : 0 ≡ n - length (listed f n) = omega (arith, length-listed f n) in
+      ap (λ (ys : List A). listed f n ++ ys) (drop-of-length-le old short ∙ ap (λ (m : ℕ). replicate m spare) none)
+
+  -- one value written over the whole list
+  pub written-same : (spare : A) (old : List A) → written (λ _. spare) (length old) old ≡ replicate (length old) spare
+  unfolding listed
+  written-same spare old =
+      ap₂ (λ (xs ys : List A). xs ++ ys) (same (length old)) (drop-length old) ∙ append-nil (replicate (length old) spare)
+    where
+      same : (n : ℕ) → listed (λ _. spare) n ≡ replicate n spare
+      same zero = refl
+      same (suc n) = ap (λ (l : List A). spare ∷ l) (same n)

@@ -5,8 +5,8 @@ use mathlib.Core.List.{List, [], _∷_, _++_}
 use native.Mathlib.Nat.{add-zero, suc-add, add-suc}
 use native.Mathlib.Numerals.{add-one}
 use native.Mathlib.Omega.{arith}
-use lib.ListN.{length, take, drop, set, replicate, length-append}
-use lib.Seq.{length-take-le, take-at, drop-at, sets, sets-eq}
+use lib.ListN.{length, set, replicate}
+use lib.Seq.{sets}
 
 module _ {ℓ} {A : Type ℓ} where
   -- two runs, one after the other
@@ -15,16 +15,6 @@ module _ {ℓ} {A : Type ℓ} where
   sets-append l (x ∷ xs) ys i =
       sets-append (set l i x) xs ys (suc i)
       ∙ ap (λ (n : ℕ). sets (sets (set l i x) (suc i) xs) n ys) (suc-add i (length xs) ∙ sym (add-suc i (length xs)))
-
-  front-long : (l vs : List A) (i : ℕ) → i + length vs ≤ length l → length (take i l ++ vs) ≡ i + length vs
-  front-long l vs i h = length-append (take i l) vs ∙ ap (λ (n : ℕ). n + length vs) (length-take-le i l (omega arith))
-
-  -- what a run leaves in front of its end, and behind it
-  pub sets-front : (l vs : List A) (i : ℕ) → i + length vs ≤ length l → take (i + length vs) (sets l i vs) ≡ take i l ++ vs
-  sets-front l vs i h = ap (take (i + length vs)) (sets-eq vs l i h) ∙ take-at (take i l ++ vs) (drop (i + length vs) l) (i + length vs) (front-long l vs i h)
-
-  pub sets-rest : (l vs : List A) (i : ℕ) → i + length vs ≤ length l → drop (i + length vs) (sets l i vs) ≡ drop (i + length vs) l
-  sets-rest l vs i h = ap (drop (i + length vs)) (sets-eq vs l i h) ∙ drop-at (take i l ++ vs) (drop (i + length vs) l) (i + length vs) (front-long l vs i h)
 
   -- one value stored in every place from i up to `to`: a turn of the loop, and its end
   pub fill-turn : (l : List A) (x : A) (i to : ℕ) → i < to → sets l i (replicate (to - i) x) ≡ sets (set l i x) (i + 1) (replicate (to - (i + 1)) x)

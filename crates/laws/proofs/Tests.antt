@@ -2,12 +2,8 @@
 -- (`lib.Ieee.Fits`). Assumes nothing.
 use mathlib.Core.Bool.{Bool, true, false, not, _&&_, _||_, cond}
 use mathlib.Core.Logic.{_⊎_, inl, inr}
-use mathlib.Core.Path.{_≡_, refl, sym, subst}
+use mathlib.Core.Path.{_≡_, refl}
 use lib.Dec.{T}
-
--- a test that is known to be true passes
-pub passes : {b : Bool} → b ≡ true → T b
-passes e = subst T (sym e) tt
 
 -- a split on a computed test
 pub by-test {ℓ} : {A : Type ℓ} (b : Bool) → (T b → A) → (T (not b) → A) → A

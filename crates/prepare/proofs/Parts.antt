@@ -5,18 +5,18 @@ use mathlib.Core.List.{List}
 use native.Mathlib.Omega.{arith}
 use lib.ListN.{length, getD}
 use lib.Ieee.{Float, nan}
+use Rattle.laws.proofs.Listed.{table-at}
+use Rattle.laws.specs.Listed.{tableOf}
 use Rattle.phrase.specs.declared.costs.Costs.{Costs}
 use Rattle.phrase.specs.Phrase.{Phrase}
 use Rattle.paths.specs.Units.{shortestUnit}
 use Rattle.stages.specs.Parts.{Fit, FitList, Fills}
 use Rattle.stages.specs.Filler.{noCost}
 use Rattle.stages.specs.Room.{most}
-use Rattle.stages.specs.Listed.{tableOf}
 use Rattle.stages.specs.Tables.{StageTables, beyond, tableAt}
 use Rattle.paths.specs.Anchors.{keptIn}
 use Rattle.paths.specs.LookAhead.{firstAhead}
 use Rattle.stages.specs.Made.{tablesOf, Made}
-use Rattle.stages.proofs.Listed.{table-at}
 use Rattle.record.specs.Meaning.{phraseAt, phraseOf}
 use Rattle.record.specs.Accepted.{Laid, Frames}
 use Rattle.record.specs.Reading.{stageOf}

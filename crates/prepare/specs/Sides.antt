@@ -6,9 +6,9 @@ use mathlib.Core.Bool.{cond}
 use lib.Dec.{ltb}
 use lib.ListN.{length, getD}
 use lib.Ieee.{Float}
+use Rattle.laws.specs.Listed.{tableOf}
 use Rattle.phrase.specs.Phrase.{Phrase, Stage}
 use Rattle.paths.specs.Units.{shortestUnit}
-use Rattle.stages.specs.Listed.{tableOf}
 use Rattle.stages.specs.Filler.{noCost}
 use Rattle.paths.specs.Anchors.{Anchor, kept}
 use Rattle.paths.specs.LookAhead.{firstAhead}

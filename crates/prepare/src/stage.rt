@@ -23,7 +23,7 @@ ghost use Rattle.record.specs.Meaning.{phraseOf};
 ghost use Rattle.record.specs.Accepted.{Laid};
 ghost use Rattle.record.specs.Reading.{stageOf, HasTable};
 ghost use Rattle.stages.specs.Room.{most};
-ghost use Rattle.stages.specs.Listed.{written};
+ghost use Rattle.laws.specs.Listed.{written};
 ghost use Rattle.stages.specs.Parts.{Fit, FitList};
 ghost use Rattle.stages.specs.Ahead.{Reaches};
 ghost use Rattle.prepare.specs.Sides.{firstRowIn, durationsOf, aheadSpan, Spans, Worded, Prepared};

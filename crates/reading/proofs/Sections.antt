@@ -3,10 +3,10 @@ use Prim.Native.Nat.{ℕ, _+_, _*_, _≤_}
 use mathlib.Core.List.{List}
 use mathlib.Core.Path.{_≡_, sym, ap, subst⁻¹, _∙_}
 use lib.ListN.{length}
+use Rattle.laws.proofs.Listed.{length-listed}
 use Rattle.record.specs.Meaning.{framesAt}
 use Rattle.record.specs.Reading.{over, Copied}
 use Rattle.record.specs.declared.layout.Section.{Section}
-use Rattle.record.proofs.Below.{length-listed}
 
 module _ (bytes : List ℕ) {s there : Section} {xs : List ℕ} (is : s ≡ there) (holds : framesAt bytes there ≡ xs) where
   pub section-long : length xs ≡ s .count

@@ -8,6 +8,10 @@ use native.Mathlib.Omega.{arith}
 use borrow.Author.Tests.{ltb-false, leb-false, lt-ltb, eqb-false}
 use lib.Dec.{ltb, eqb}
 use lib.ListN.{length}
+use lib.Arith.{digits-lt}
+use Rattle.laws.proofs.Listed.{length-listed, getD-listed}
+use Rattle.laws.proofs.Numbers.{not-zero}
+use Rattle.laws.proofs.Choices.{neither-left, neither-right, and-fails}
 use Rattle.ieee.specs.Range.{within}
 use Rattle.phrase.specs.Phrase.{Candidate}
 use Rattle.record.specs.Bytes.{u32At, u64At}
@@ -21,12 +25,11 @@ use Rattle.record.specs.Accepted.{Laid, StageFit, CandidateFit, Fit}
 use Rattle.record.specs.declared.limits.Limits.{Limits}
 use Rattle.record.specs.declared.layout.Section.{Section}
 use Rattle.record.specs.declared.layout.Layout.{Layout}
-use Rattle.record.proofs.Tests.{or-left, or-right, and-right, not-zero}
 use Rattle.record.proofs.Sizes.{sized}
-use Rattle.record.proofs.Below.{none-below, length-listed, getD-listed}
+use Rattle.record.proofs.Below.{none-below}
 use Rattle.record.proofs.Entries.{units-some, units-most}
 use Rattle.record.proofs.Passed.{Passed, none-holds}
-use Rattle.record.proofs.Fits.{frames-fit, score-fits, cost-fits, table-fits, edges-fit, score-place}
+use Rattle.record.proofs.Fits.{frames-fit, score-fits, cost-fits, table-fits, edges-fit}
 
 counted : (l : Limits) (bytes : List ℕ) → Sized l (trailerOf bytes) → Counted l (layoutOf bytes)
 unfolding layoutOf layoutFrom
@@ -56,12 +59,12 @@ tracked : (bytes : List ℕ) (at : Layout) → badTrack bytes at ≡ false → T
 unfolding badTrack
 tracked bytes at e =
     record {
-      mask = search (or-left, or-right) depth 8;
-      nuclei = search (or-left, or-right) depth 8;
-      boundaries = search (or-left, or-right) depth 8;
-      anchors = search (or-left, or-right) depth 8;
-      added = search (or-left, or-right) depth 8;
-      speech = search (or-left, or-right) depth 8;
+      mask = search (neither-left, neither-right) depth 8;
+      nuclei = search (neither-left, neither-right) depth 8;
+      boundaries = search (neither-left, neither-right) depth 8;
+      anchors = search (neither-left, neither-right) depth 8;
+      added = search (neither-left, neither-right) depth 8;
+      speech = search (neither-left, neither-right) depth 8;
     }
 
 -- condition 6, part by part
@@ -77,12 +80,12 @@ priced : (bytes : List ℕ) (at : Layout) → badCost bytes at ≡ false → Pri
 unfolding badCost
 priced bytes at e =
     record {
-      scores = search (or-left, or-right) depth 8;
-      perFrame = search (or-left, or-right) depth 8;
-      insertion = search (or-left, or-right) depth 8;
-      unvoiced = search (or-left, or-right) depth 8;
-      first = search (or-left, or-right) depth 8;
-      second = search (or-left, or-right) depth 8;
+      scores = search (neither-left, neither-right) depth 8;
+      perFrame = search (neither-left, neither-right) depth 8;
+      insertion = search (neither-left, neither-right) depth 8;
+      unvoiced = search (neither-left, neither-right) depth 8;
+      first = search (neither-left, neither-right) depth 8;
+      second = search (neither-left, neither-right) depth 8;
     }
 
 -- ---- from the parts to the phrase
@@ -136,13 +139,13 @@ module _ (l : Limits) (bytes : List ℕ) (p : Passed l bytes) where
         fewColumns = n .columns;
         scores = λ row column below inside.
             let rows : row < at .nuclei .count + at .anchors .count = omega arith in
-            score-fits (u32At bytes (at .scores .start + 4 * (row * at .scores .count + column))) (none-below _ _ (r .scores) (row * at .scores .count + column) (score-place (at .nuclei .count + at .anchors .count) (at .scores .count) row column rows inside));
+            score-fits (u32At bytes (at .scores .start + 4 * (row * at .scores .count + column))) (none-below _ _ (r .scores) (row * at .scores .count + column) (digits-lt rows inside));
         perFrame = cost-fits (u64At bytes (at .costs)) (r .perFrame);
         insertion = cost-fits (u64At bytes (at .costs + 8)) (r .insertion);
         unvoiced = score-fits (u32At bytes (at .costs + 16)) (r .unvoiced);
         durations = table-fits bytes (firstTable (at .costs)) (r .first);
         addedDurations = λ some.
-            table-fits bytes (secondTable (at .costs)) (and-right _ _ (r .second) (lt-ltb 0 (at .anchors .count) (omega arith)));
+            table-fits bytes (secondTable (at .costs)) (and-fails _ _ (r .second) (lt-ltb 0 (at .anchors .count) (omega arith)));
         someCandidate = subst (λ (k : ℕ). 0 < k) (sym long) (not-zero _ (p .bare));
         fewCandidates = subst (λ (k : ℕ). k ≤ l .candidates) (sym long) (n .candidates);
         candidates = λ i other below.

@@ -1,13 +1,12 @@
--- Laws of `anyBelow` and `listed`. A loop that looks for the first number at which a test holds keeps `anyBelow p i ≡ false`.
+-- Laws of `anyBelow`. A loop that looks for the first number at which a test holds keeps `anyBelow p i ≡ false`.
 use Prim.Native.Nat.{ℕ, zero, suc, _+_, _≤_, _<_}
 use mathlib.Core.Bool.{Bool, true, false, _||_, or-true}
 use mathlib.Core.Path.{_≡_, refl, sym, ap, _∙_}
 use mathlib.Core.Logic.{⊎-elim}
 use native.Mathlib.Nat.{le-of-suc-le-suc, eq-or-lt-of-le, not-suc-le-zero, le-antisymm}
 use native.Mathlib.Numerals.{add-one}
-use lib.ListN.{length, getD}
-use Rattle.record.specs.Below.{anyBelow, listed}
-use Rattle.record.proofs.Tests.{or-left, or-right}
+use Rattle.laws.proofs.Choices.{neither-left, neither-right}
+use Rattle.record.specs.Below.{anyBelow}
 
 module _ (p : ℕ → Bool) where
   pub any-none : anyBelow p 0 ≡ false
@@ -36,15 +35,4 @@ module _ (p : ℕ → Bool) where
   unfolding anyBelow
   none-below zero e i l = absurd (not-suc-le-zero l)
   none-below (suc n) e i l =
-      ⊎-elim (λ (h : i ≡ n). ap p h ∙ or-right (anyBelow p n) (p n) e) (λ lt. none-below n (or-left (anyBelow p n) (p n) e) i lt) (eq-or-lt-of-le (le-of-suc-le-suc l))
-
-pub length-listed {ℓ} : {A : Type ℓ} (f : ℕ → A) (n : ℕ) → length (listed f n) ≡ n
-unfolding listed
-length-listed f zero = refl
-length-listed f (suc n) = ap suc (length-listed (λ i. f (suc i)) n)
-
-pub getD-listed {ℓ} : {A : Type ℓ} (f : ℕ → A) (n i : ℕ) (d : A) → i < n → getD (listed f n) i d ≡ f i
-unfolding listed
-getD-listed f zero i d l = absurd (not-suc-le-zero l)
-getD-listed f (suc n) zero d l = refl
-getD-listed f (suc n) (suc i) d l = getD-listed (λ j. f (suc j)) n i d (le-of-suc-le-suc l)
+      ⊎-elim (λ (h : i ≡ n). ap p h ∙ neither-right (anyBelow p n) (p n) e) (λ lt. none-below n (neither-left (anyBelow p n) (p n) e) i lt) (eq-or-lt-of-le (le-of-suc-le-suc l))

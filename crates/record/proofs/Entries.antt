@@ -6,10 +6,11 @@ use mathlib.Core.Path.{_≡_, subst}
 use native.Mathlib.Nat.{mul-suc, mul-le-mul-left}
 use borrow.Author.Tests.{ltb-false}
 use lib.Dec.{eqb, ltb}
+use Rattle.laws.proofs.Numbers.{not-zero}
+use Rattle.laws.proofs.Choices.{neither-left, neither-right}
 use Rattle.record.specs.Conditions.{unitsAt, badUnits}
 use Rattle.record.specs.declared.limits.Limits.{Limits}
 use Rattle.record.specs.declared.layout.Layout.{Layout}
-use Rattle.record.proofs.Tests.{or-left, or-right, not-zero}
 
 -- entry i of n, each of `size` numbers, ends within them
 pub entry-within : (size : ℕ) {n i : ℕ} → i < n → size * i + size ≤ size * n
@@ -18,7 +19,7 @@ entry-within size {n} {i} l = subst (λ (k : ℕ). k ≤ size * n) (mul-suc size
 -- where condition 9 does not hold
 module _ (l : Limits) (bytes : List ℕ) (at : Layout) (i : ℕ) (fine : badUnits l bytes at i ≡ false) where
   pub units-some : 0 < unitsAt l bytes at i
-  units-some = not-zero _ (or-left (eqb (unitsAt l bytes at i) 0) (ltb (l .units) (unitsAt l bytes at i)) fine)
+  units-some = not-zero _ (neither-left (eqb (unitsAt l bytes at i) 0) (ltb (l .units) (unitsAt l bytes at i)) fine)
 
   pub units-most : unitsAt l bytes at i ≤ l .units
-  units-most = ltb-false _ _ (or-right (eqb (unitsAt l bytes at i) 0) (ltb (l .units) (unitsAt l bytes at i)) fine)
+  units-most = ltb-false _ _ (neither-right (eqb (unitsAt l bytes at i) 0) (ltb (l .units) (unitsAt l bytes at i)) fine)

@@ -4,7 +4,7 @@ use mathlib.Core.Bool.{Bool, true, false, not, _&&_, _||_, cond}
 use mathlib.Core.List.{List}
 use mathlib.Core.Path.{_≡_, sym, subst, subst⁻¹}
 use mathlib.Core.Logic.{⊎-elim}
-use native.Mathlib.Nat.{le-of-suc-le-suc, eq-or-lt-of-le, lt-trans, not-suc-le-zero, mul-comm}
+use native.Mathlib.Nat.{le-of-suc-le-suc, eq-or-lt-of-le, lt-trans, not-suc-le-zero}
 use native.Mathlib.Numerals.{add-one}
 use native.Mathlib.Omega.{arith}
 use borrow.Author.Tests.{ltb-false, leb-false, not-false}
@@ -12,6 +12,8 @@ use lib.Dec.{T, ltb, lit≤}
 use lib.ListN.{length, getD}
 use lib.Ieee.{Float, binary32, binary64, ofBits}
 use lib.Ieee.Bits.{ofBits-fits}
+use Rattle.laws.proofs.Listed.{length-listed, getD-listed}
+use Rattle.laws.proofs.Choices.{neither-left, neither-right}
 use Rattle.ieee.specs.Range.{within}
 use Rattle.ieee.specs.Value.{Within}
 use Rattle.ieee.proofs.Magnitude.{whole-within, between-within, range-within, neg-within, weaken}
@@ -21,10 +23,8 @@ use Rattle.record.specs.Conditions.{lastFrame, frameAt, lateFrame, unord
 use Rattle.record.specs.Meaning.{framesAt, durationAt}
 use Rattle.record.specs.Accepted.{Frames}
 use Rattle.record.specs.declared.layout.Section.{Section}
-use Rattle.record.proofs.Tests.{or-left, or-right}
-use Rattle.record.proofs.Entries.{entry-within}
 use Rattle.record.proofs.Figures.{million-whole}
-use Rattle.record.proofs.Below.{none-below, length-listed, getD-listed}
+use Rattle.record.proofs.Below.{none-below}
 
 -- ---- lists of frames
 
@@ -37,10 +37,10 @@ rises f n step i (suc j) l m =
 
 module _ (bytes : List ℕ) (s : Section) (fine : badList bytes s ≡ false) where
   late-false : lateFrame bytes s ≡ false
-  late-false = or-left (lateFrame bytes s) (unordered bytes s) fine
+  late-false = neither-left (lateFrame bytes s) (unordered bytes s) fine
 
   ordered : unordered bytes s ≡ false
-  ordered = or-right (lateFrame bytes s) (unordered bytes s) fine
+  ordered = neither-right (lateFrame bytes s) (unordered bytes s) fine
 
   pub frames-fit : Frames (framesAt bytes s)
   frames-fit =
@@ -85,12 +85,8 @@ edges-fit true start end a b e h = let no : _≡_ {A = ℕ} 0 1 = cc in let neve
 edges-fit false start end a b e h =
     let first : start ≡ a = cc in
     let second : end ≡ b = cc in
-    let order : start ≤ end = ltb-false _ _ (or-left (ltb end start) (ltb lastFrame end) e) in
-    let last : end ≤ lastFrame = ltb-false _ _ (or-right (ltb end start) (ltb lastFrame end) e) in
+    let order : start ≤ end = ltb-false _ _ (neither-left (ltb end start) (ltb lastFrame end) e) in
+    let last : end ≤ lastFrame = ltb-false _ _ (neither-right (ltb end start) (ltb lastFrame end) e) in
     (omega arith, omega arith)
 
 -- ---- scores
-
--- the place of a row and a column among the scores
-pub score-place : (rows columns row column : ℕ) → row < rows → column < columns → row * columns + column < rows * columns
-score-place rows columns row column r c = omega (arith, entry-within columns r, mul-comm columns row, mul-comm columns rows)

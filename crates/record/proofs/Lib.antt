@@ -1,7 +1,6 @@
 -- Laws for those above: what a check answers (Answers) and under which conditions (RuleLists, Given), what its rules leave (Chain,
--- Sizes, Entries), what every accepted record has (Accepted) and where its sections stand (Reading), tests and lists by index (Tests,
--- Below), the limits of figures (Figures). The others are steps on the way.
-pub mod Tests
+-- Sizes, Entries), what every accepted record has (Accepted) and where its sections stand (Reading), tests at the numbers below a count
+-- (Below), the limits of figures (Figures). The others are steps on the way.
 pub mod Sizes
 pub mod Below
 pub mod Entries

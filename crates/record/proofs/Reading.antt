@@ -6,9 +6,10 @@ use mathlib.Core.Path.{_≡_, sym, ap, subst, subst⁻¹, _∙_}
 use native.Mathlib.Omega.{arith}
 use lib.ListN.{length}
 use lib.Dec.{T}
-use lib.Ieee.{Float, nan, inf, fin, Format, binary64, ofBits, isNan, nanBits}
+use lib.Ieee.{Float, Format, binary64, ofBits, isNan, nanBits}
 use lib.Ieee.Bits.{nanBits-is}
-use lib.Ieee.Scale.{finite}
+use Rattle.laws.proofs.Listed.{length-listed, getD-listed}
+use Rattle.ieee.proofs.Value.{finite-number}
 use Rattle.ieee.specs.Value as Fine
 use Rattle.phrase.specs.Phrase.{Phrase}
 use Rattle.record.specs.Edition.{edition1}
@@ -22,7 +23,6 @@ use Rattle.record.specs.declared.layout.Layout.{Layout}
 use Rattle.record.specs.declared.read.Which.{Which}
 use Rattle.record.specs.declared.read.Which.the-variants.{Nuclei, Count}
 use Rattle.record.proofs.Sizes.{reaching, within-layout, candidates-layout, moderate}
-use Rattle.record.proofs.Below.{length-listed, getD-listed}
 use Rattle.record.proofs.Accepted.{laid-passed, meaning, fit}
 
 -- ---- where the sections stand, and what they mean
@@ -92,15 +92,9 @@ module _ {bytes : List ℕ} {at : Layout} (h : Laid bytes at) where
 
 -- ---- figures
 
-finite-real : (x : Float) → T (finite x) → T (not (isNan x))
-unfolding isNan
-finite-real nan t = t
-finite-real (inf s) t = tt
-finite-real (fin s m e) t = tt
-
 -- the bits of a float are no NaN's exactly where the float is none
 pub real-bits : (f : Format) (p : ℕ) → T (not (isNan (ofBits f p))) → T (not (nanBits f p))
 real-bits f p real = subst⁻¹ (λ (b : Bool). T (not b)) (nanBits-is f p) real
 
 pub within-real : {f : Format} {x : Float} {n : ℕ} → Fine.Within f x n → T (not (isNan x))
-within-real {x = x} w = finite-real x (w .real .isFinite)
+within-real {x = x} w = finite-number x (w .real .isFinite)

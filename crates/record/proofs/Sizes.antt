@@ -6,13 +6,14 @@ use native.Mathlib.Nat.{mul-le-mul}
 use native.Mathlib.Omega.{arith}
 use borrow.Author.Tests.{ltb-false, eq-eqb}
 use lib.Dec.{eqb, ltb, lit≤}
+use Rattle.laws.proofs.Numbers.{not-zero}
+use Rattle.laws.proofs.Choices.{neither-left, neither-right, and-fails}
 use Rattle.record.specs.Edition.{edition1, Moderate}
 use Rattle.record.specs.Bounds.{Sized, Reaches, Reaching, Inside, Within, CandidatesRead}
 use Rattle.record.specs.Layout.{layoutFrom}
 use Rattle.record.specs.Conditions.{oversized, outside, overreaching}
 use Rattle.record.specs.declared.limits.Limits.{Limits}
 use Rattle.record.specs.declared.trailer.Trailer.{Trailer}
-use Rattle.record.proofs.Tests.{or-left, or-right, and-right, not-zero}
 
 -- the most a score section and a candidate section have in an edition of moderate numbers
 pub scores-most : {l : Limits} {t : Trailer} → Moderate l → Sized l t → (t .nuclei .count + t .anchors .count) * t .scores .count ≤ 131072 * 65536
@@ -25,36 +26,36 @@ pub sized : (l : Limits) (t : Trailer) → oversized l t ≡ false → Sized l t
 unfolding oversized
 sized l t e =
     record {
-      frames = search (or-left, or-right, ltb-false) depth 12;
-      nuclei = search (or-left, or-right, ltb-false) depth 12;
-      boundaries = search (or-left, or-right, ltb-false) depth 12;
-      anchors = search (or-left, or-right, ltb-false) depth 12;
-      added = search (or-left, or-right, ltb-false) depth 12;
-      columns = search (or-left, or-right, ltb-false) depth 12;
-      candidates = search (or-left, or-right, ltb-false) depth 12;
-      someColumn = search (or-left, or-right, not-zero) depth 12;
+      frames = search (neither-left, neither-right, ltb-false) depth 12;
+      nuclei = search (neither-left, neither-right, ltb-false) depth 12;
+      boundaries = search (neither-left, neither-right, ltb-false) depth 12;
+      anchors = search (neither-left, neither-right, ltb-false) depth 12;
+      added = search (neither-left, neither-right, ltb-false) depth 12;
+      columns = search (neither-left, neither-right, ltb-false) depth 12;
+      candidates = search (neither-left, neither-right, ltb-false) depth 12;
+      someColumn = search (neither-left, neither-right, not-zero) depth 12;
       nothingAdded =
           λ none.
-          let both : (eqb (t .anchors .count) 0 && ltb 0 (t .added .count)) ≡ false = search (or-left, or-right) in
-          let most : t .added .count ≤ 0 = ltb-false 0 (t .added .count) (and-right _ _ both (eq-eqb (t .anchors .count) 0 none)) in
+          let both : (eqb (t .anchors .count) 0 && ltb 0 (t .added .count)) ≡ false = search (neither-left, neither-right) in
+          let most : t .added .count ≤ 0 = ltb-false 0 (t .added .count) (and-fails _ _ both (eq-eqb (t .anchors .count) 0 none)) in
           omega arith;
     }
 
 reaches : (end bytes back : ℕ) → outside end bytes back ≡ false → Reaches end bytes back
-reaches end bytes back e = record { long = search (or-left, ltb-false); inside = search (or-left, or-right, ltb-false) }
+reaches end bytes back e = record { long = search (neither-left, ltb-false); inside = search (neither-left, neither-right, ltb-false) }
 
 pub reaching : (l : Limits) (end : ℕ) (t : Trailer) → overreaching l end t ≡ false → Reaching l end t
 unfolding overreaching
 reaching l end t e =
     record {
-      mask = reaches _ _ _ (search (or-left, or-right) depth 12);
-      nuclei = reaches _ _ _ (search (or-left, or-right) depth 12);
-      boundaries = reaches _ _ _ (search (or-left, or-right) depth 12);
-      anchors = reaches _ _ _ (search (or-left, or-right) depth 12);
-      added = reaches _ _ _ (search (or-left, or-right) depth 12);
-      scores = reaches _ _ _ (search (or-left, or-right) depth 12);
-      candidates = reaches _ _ _ (search (or-left, or-right) depth 12);
-      costs = reaches _ _ _ (search (or-left, or-right) depth 12);
+      mask = reaches _ _ _ (search (neither-left, neither-right) depth 12);
+      nuclei = reaches _ _ _ (search (neither-left, neither-right) depth 12);
+      boundaries = reaches _ _ _ (search (neither-left, neither-right) depth 12);
+      anchors = reaches _ _ _ (search (neither-left, neither-right) depth 12);
+      added = reaches _ _ _ (search (neither-left, neither-right) depth 12);
+      scores = reaches _ _ _ (search (neither-left, neither-right) depth 12);
+      candidates = reaches _ _ _ (search (neither-left, neither-right) depth 12);
+      costs = reaches _ _ _ (search (neither-left, neither-right) depth 12);
     }
 
 pub inside : (l : Limits) (end : ℕ) (t : Trailer) → Reaching l end t → Inside end t

@@ -4,10 +4,10 @@ use mathlib.Core.Bool.{_&&_, cond}
 use mathlib.Core.List.{List}
 use lib.Dec.{eqb}
 use lib.Ieee.{Float}
+use Rattle.laws.specs.Listed.{listed}
 use Rattle.phrase.specs.Phrase.{Phrase, Candidate, Speech, silent, spoken}
 use Rattle.phrase.specs.declared.costs.Costs.{Costs}
 use Rattle.record.specs.Bytes.{byteAt}
-use Rattle.record.specs.Below.{listed}
 use Rattle.record.specs.Edition.{edition1}
 use Rattle.record.specs.Layout.{layoutOf}
 use Rattle.record.specs.Conditions.{frameAt, noFrame, speechStart, speechEnd, f32At, f64At, shortest, firstTable, secondTable, idAt, unitsAt, columnAt}

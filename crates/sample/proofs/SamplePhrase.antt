@@ -10,9 +10,10 @@ use lib.ListN.{length, replicate, set, take}
 use lib.IntN.{pos, negsuc}
 use lib.Count.{trailingZeros}
 use lib.Ieee.{fin, le, lt, eq, neg, ofInt, round, size, span, climb, units, odd, ofBits, ofFields}
+use Rattle.laws.specs.Listed.{listed}
 use Rattle.phrase.specs.Phrase.{Phrase, spoken}
 use Rattle.record.specs.Bytes.{u32At, u64At}
-use Rattle.record.specs.Below.{anyBelow, listed}
+use Rattle.record.specs.Below.{anyBelow}
 use Rattle.record.specs.Layout.{trailerOf, layoutFrom, layoutOf}
 use Rattle.record.specs.Conditions.{oversized, overreaching, badTrack, badCost, shortest, tableEntries}
 use Rattle.record.specs.Refusals.{firstOf, candidateRules, firstRules, ownRules, refusalOf, refusalWith}

@@ -1,12 +1,13 @@
 -- What the Rust says of `tbu_spans` in its comment, in our words: each span holds its nucleus, and they stand in order and never overlap.
 use Prim.Native.Nat.{ℕ, zero, suc, _+_, _≤_, _<_, zero-le, min, max}
-use mathlib.Core.Bool.{Bool, true, false, not, cond}
+use mathlib.Core.Bool.{Bool, true, false, not}
 use mathlib.Core.Path.{_≡_, refl, ap}
 use mathlib.Core.List.{List, _∷_, map, List·Memᴰ}
 use native.Mathlib.Nat.{le-refl}
 use native.Mathlib.Omega.{arith}
 use lib.Dec.{T, ltb, ltb→lt, nltb→le}
 use lib.ListN.{length}
+use Rattle.laws.proofs.Tests.{by-choice}
 use Rattle.frames.specs.Frames.{highestBelow, lowestFrom, onward, ascendingFrom, orElse}
 use Rattle.frames.specs.Order.{InOrder}
 use Rattle.spans.specs.Spans.{uncutStart, uncutEnd, startBeside, endBeside, spanOf, spansOf}
@@ -30,15 +31,6 @@ end-above bounds hi f = go (lowestFrom (f + 1) bounds) (lowest-is (f + 1) bounds
     go None is = omega arith
     go (At b) is = let above = is .from in omega arith
 
--- either of two edges at or below a frame
-both-below : (b : Bool) {x y f : ℕ} → x ≤ f → y ≤ f → cond b x y ≤ f
-both-below true h k = h
-both-below false h k = k
-
-both-above : (b : Bool) {x y f : ℕ} → f < x → f < y → f < cond b x y
-both-above true h k = h
-both-above false h k = k
-
 module _ (frames bounds : List ℕ) (lo hi : ℕ) where
   -- each span holds its nucleus
   pub starts-by : (f : ℕ) → spanOf frames bounds lo hi f .start ≤ f
@@ -47,7 +39,7 @@ module _ (frames bounds : List ℕ) (lo hi : ℕ) where
     where
       go : (near : Nearest) → IsHighest f frames near → startBeside bounds lo hi near f ≤ f
       go None is = start-below bounds lo f
-      go (At left) is = both-below (ltb (uncutStart bounds lo f) (uncutEnd bounds hi left)) (let below = is .below in omega arith) (start-below bounds lo f)
+      go (At left) is = by-choice (λ (start : ℕ). start ≤ f) (ltb (uncutStart bounds lo f) (uncutEnd bounds hi left)) (λ _. let below = is .below in omega arith) (λ _. start-below bounds lo f)
 
   pub ends-after : (f : ℕ) → f < spanOf frames bounds lo hi f .end
   unfolding spanOf
@@ -55,7 +47,7 @@ module _ (frames bounds : List ℕ) (lo hi : ℕ) where
     where
       go : (near : Nearest) → IsLowest (f + 1) frames near → f < endBeside bounds lo hi f near
       go None is = end-above bounds hi f
-      go (At right) is = both-above (ltb (uncutStart bounds lo right) (uncutEnd bounds hi f)) (let above = is .from in omega arith) (end-above bounds hi f)
+      go (At right) is = by-choice (λ (end : ℕ). f < end) (ltb (uncutStart bounds lo right) (uncutEnd bounds hi f)) (λ _. let above = is .from in omega arith) (λ _. end-above bounds hi f)
 
   -- the right neighbour's left neighbour
   back : {f g : ℕ} → List·Memᴰ f frames → lowestFrom (f + 1) frames ≡ At g → highestBelow g frames ≡ At f

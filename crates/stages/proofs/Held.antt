@@ -8,14 +8,16 @@ use native.Mathlib.Numerals.{add-one}
 use lib.Dec.{ltb, leb}
 use lib.ListN.{length, getD, drop, length-map, drop-of-length-le}
 use borrow.Author.Tests.{lt-ltb, le-ltb, le-leb, lt-leb, ltb-true}
+use Rattle.laws.proofs.Numbers.{by-order}
+use Rattle.laws.proofs.Choices.{and-left}
+use Rattle.laws.proofs.Listed.{padded-in, padded-out}
+use Rattle.laws.specs.Listed.{padded}
 use Rattle.paths.specs.Frames.{Increasing, within}
 use Rattle.paths.specs.Anchors.{Anchor, select, numbered, keptIn, heldIn}
 use Rattle.paths.specs.LookAhead.{ahead}
-use Rattle.stages.specs.Listed.{padded}
 use Rattle.stages.specs.Kept.{framesOf}
 use Rattle.stages.specs.Places.{Climbs, countBelow}
-use Rattle.stages.proofs.Listed.{padded-in, padded-out}
-use Rattle.stages.proofs.Places.{either, one-counted, none-counted, none-below}
+use Rattle.stages.proofs.Places.{one-counted, none-counted, none-below}
 
 -- every anchor lies below a frame
 abbrev pub Below : ℕ → List Anchor → Type 0
@@ -56,7 +58,7 @@ unfolding heldIn select countBelow
 held-count [] bound = refl
 held-count (anchor ∷ anchors) bound =
     let known = held-count anchors bound in
-    either (anchor .frame) bound
+    by-order (anchor .frame) bound
     (λ less. holds-it anchor anchors 0 bound (omega arith) less ∙ ap suc known ∙ sym (one-counted (anchor .frame) bound _ less))
     (λ more. after-it anchor anchors 0 bound (omega arith) more ∙ known ∙ sym (none-counted (anchor .frame) bound _ more))
 
@@ -67,7 +69,7 @@ unfolding heldIn select
 held-on [] end from to below h = refl
 held-on (anchor ∷ anchors) end from to below h =
     let known = held-on anchors end from to (below .1) h in
-    either (anchor .frame) from
+    by-order (anchor .frame) from
     (λ less.
     omega (
       arith,
@@ -77,7 +79,7 @@ held-on (anchor ∷ anchors) end from to below h =
       before-it anchor anchors from to less,
       holds-it anchor anchors 0 to (omega arith) (omega (arith, below .0)),
     ))
-    (λ more. either (anchor .frame) to
+    (λ more. by-order (anchor .frame) to
     (λ less.
     omega (arith, known, after-it anchor anchors 0 from (omega arith) more, holds-it anchor anchors from to more less, holds-it anchor anchors 0 to (omega arith) less))
     (λ more′.
@@ -92,11 +94,7 @@ all-below (anchor ∷ anchors) end bound below h =
 -- A frame within the mask is below its end.
 within-below : (mask : List ℕ) (frame : ℕ) → within mask frame ≡ true → frame < length mask
 unfolding within
-within-below mask frame e = ltb-true frame (length mask) (both (ltb frame (length mask)) _ e)
-  where
-    both : (a b : Bool) → (a && b) ≡ true → a ≡ true
-    both true b e = refl
-    both false b e = e
+within-below mask frame e = ltb-true frame (length mask) (and-left (ltb frame (length mask)) _ e)
 
 module _ (mask : List ℕ) where
   -- for whatever is shown of the kept anchors, by whether the first listed one is kept
@@ -144,7 +142,7 @@ unfolding ahead select countBelow
 ahead-drop [] low high bound climbs = refl
 ahead-drop (anchor ∷ anchors) low high bound climbs =
     let known = ahead-drop anchors (anchor .frame) high bound (climbs .1) in
-    either (anchor .frame) bound
+    by-order (anchor .frame) bound
     (λ less. simp (lt-leb bound (anchor .frame) less, lt-ltb (anchor .frame) bound less) known)
     (λ more.
     let none : countBelow (framesOf anchors) bound ≡ 0 = none-below (framesOf anchors) (anchor .frame) high bound (climbs .1) more in
@@ -154,7 +152,7 @@ ahead-drop (anchor ∷ anchors) low high bound climbs =
 -- one figure of the anchors from a place on: that of the first, or what stands for none
 pub figure-from : (f : Anchor → ℕ) (g : List Anchor → ℕ) → ((anchor : Anchor) (anchors : List Anchor) → g (anchor ∷ anchors) ≡ f anchor)
     → (anchors : List Anchor) (size place : ℕ) → place < size → getD (padded (map f anchors) size (g [])) place 0 ≡ g (drop place anchors)
-figure-from f g first anchors size place h = either place (length anchors) inside outside
+figure-from f g first anchors size place h = by-order place (length anchors) inside outside
   where
     at : (some : List Anchor) (p : ℕ) → p < length some → getD (map f some) p 0 ≡ g (drop p some)
     at [] p k = omega arith

@@ -1,5 +1,4 @@
 -- Laws of the tables of a stage.
-pub mod Listed
 pub mod Edges
 pub mod Speech
 pub mod Kept

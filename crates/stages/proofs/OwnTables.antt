@@ -6,6 +6,8 @@ use native.Mathlib.Omega.{arith}
 use native.Mathlib.Numerals.{add-one}
 use lib.ListN.{length, getD, take, drop}
 use lib.Ieee.{Float, nan, neg}
+use Rattle.laws.proofs.Listed.{table-at}
+use Rattle.laws.specs.Listed.{tableOf}
 use Rattle.phrase.specs.declared.costs.Costs.{Costs}
 use Rattle.phrase.specs.Phrase.{Phrase, Stage}
 use Rattle.phrase.specs.Filler.{fillerCost}
@@ -20,9 +22,7 @@ use Rattle.stages.specs.Tables.{StageTables, beyond, Tabled, tableAt, ta
 use Rattle.stages.specs.Edges.{edge}
 use Rattle.stages.specs.Filler.{noCost}
 use Rattle.stages.specs.Parts.{costOf, Fills, Sees}
-use Rattle.stages.specs.Listed.{tableOf}
 use Rattle.stages.specs.Made.{PartsOf, tablesOf, Made}
-use Rattle.stages.proofs.Listed.{table-at}
 use Rattle.stages.proofs.Edges.{edge-in}
 
 cost-is : (phrase : Phrase) → phrase .nuclei .firstRow ≡ 0 → (from to : ℕ)

@@ -6,11 +6,12 @@ use native.Mathlib.Omega.{arith}
 use lib.ListN.{length, getD, length-drop, take, drop, replicate, length-append, length-replicate, drop-of-length-le}
 use lib.Seq.{length-take-le, take-all, getD-drop, take-at, drop-at, take-take, take-add, drop-drop, take-append-le, drop-append-le, drop-append-add}
 use borrow.Rule.Slice.PartMut.{postOf, putMid, take-put, same-len-mid}
+use Rattle.laws.proofs.Numbers.{by-order}
+use Rattle.laws.proofs.Listed.{written-table, length-table}
+use Rattle.laws.proofs.Lists.{drop-replicate}
+use Rattle.laws.specs.Listed.{tableOf, written}
 use Rattle.stages.specs.Room.{most}
-use Rattle.stages.specs.Listed.{tableOf, written}
 use Rattle.stages.specs.Tables.{tableAt}
-use Rattle.stages.proofs.Listed.{drop-replicate, written-table, length-table}
-use Rattle.stages.proofs.Places.{either}
 
 module _ {A : Type 0} where
   take-replicate : (n size : ℕ) (x : A) → n ≤ size → take n (replicate size x) ≡ replicate n x
@@ -104,7 +105,7 @@ module _ {A : Type 0} {spare : A} {m : ℕ} {table : ℕ → List A} where
   laying-next {k} {n} {l} {out} g laying h few e is = record {
     long = same-len-mid (k * most) most l out (ap length filled ∙ length-table g n most spare few ∙ sym (laying-long laying h))
         ∙ laying .long;
-    laid = λ j before. either j k
+    laid = λ j before. by-order j k
         (λ less. put-before (k * most) most (j * most) most l out (omega arith) (omega (arith, laying .long)) ∙ laying .laid j less)
         (λ more.
         let here : j ≡ k = omega arith in

@@ -6,7 +6,8 @@ use mathlib.Core.List.{List, [], _∷_, _++_}
 use native.Mathlib.Omega.{arith}
 use lib.Dec.{T, ltb, ltb→lt, nltb→le}
 use lib.ListN.{length, getD, replicate}
-use Rattle.stages.specs.Listed.{padded}
+use Rattle.laws.proofs.Numbers.{by-order}
+use Rattle.laws.specs.Listed.{padded}
 use Rattle.stages.specs.Places.{Climbs, countBelow}
 
 -- A frame below the bound counts one, any other nothing.
@@ -24,22 +25,14 @@ none-counted frame bound rest h = go (ltb frame bound) (ltb→lt frame bound)
     go true less = omega (arith, less tt)
     go false less = refl
 
--- for whatever is shown in both cases
-pub either : {P : Type 0} (frame bound : ℕ) → (frame < bound → P) → (bound ≤ frame → P) → P
-either {P} frame bound below above = go (ltb frame bound) (ltb→lt frame bound) (nltb→le frame bound)
-  where
-    go : (b : Bool) → (T b → frame < bound) → (T (not b) → bound ≤ frame) → P
-    go true less more = below (less tt)
-    go false less more = above (more tt)
-
 pub below-mono : (frames : List ℕ) (bound further : ℕ) → bound ≤ further → countBelow frames bound ≤ countBelow frames further
 unfolding countBelow
 below-mono [] bound further h = omega arith
 below-mono (frame ∷ frames) bound further h =
     let known = below-mono frames bound further h in
-    either frame bound
+    by-order frame bound
     (λ less. omega (arith, known, one-counted frame bound (countBelow frames bound) less, one-counted frame further (countBelow frames further) (omega arith)))
-    (λ more. either frame further
+    (λ more. by-order frame further
     (λ less. omega (arith, known, none-counted frame bound (countBelow frames bound) more, one-counted frame further (countBelow frames further) less))
     (λ more′. omega (arith, known, none-counted frame bound (countBelow frames bound) more, none-counted frame further (countBelow frames further) more′)))
 
@@ -48,7 +41,7 @@ unfolding countBelow
 below-le [] bound = omega arith
 below-le (frame ∷ frames) bound =
     let known = below-le frames bound in
-    either frame bound
+    by-order frame bound
     (λ less. omega (arith, known, one-counted frame bound (countBelow frames bound) less))
     (λ more. omega (arith, known, none-counted frame bound (countBelow frames bound) more))
 
@@ -81,7 +74,7 @@ not-below (frame ∷ frames) low high bound zero c h k =
     omega (arith, none-counted frame bound (countBelow frames bound) k, none-below frames frame high bound (c .1) k)
 not-below (frame ∷ frames) low high bound (suc p) c h k =
     let known = not-below frames frame high bound p (c .1) (omega arith) k in
-    either frame bound
+    by-order frame bound
     (λ less. omega (arith, known, one-counted frame bound (countBelow frames bound) less))
     (λ more. omega (arith, known, none-counted frame bound (countBelow frames bound) more))
 

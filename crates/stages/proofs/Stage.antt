@@ -5,6 +5,9 @@ use mathlib.Core.List.{List, tail}
 use native.Mathlib.Omega.{arith}
 use lib.ListN.{length, getD, drop, length-map}
 use lib.Ieee.{Float, neg}
+use Rattle.laws.proofs.Numbers.{by-order}
+use Rattle.laws.proofs.Listed.{table-at, table-same, length-table, length-padded}
+use Rattle.laws.specs.Listed.{padded, tableOf}
 use Rattle.phrase.specs.declared.costs.Costs.{Costs}
 use Rattle.phrase.specs.Filler.{fillerCost}
 use Rattle.paths.specs.Frames.{speechIn}
@@ -12,17 +15,15 @@ use Rattle.paths.specs.Anchors.{Anchor, keptIn, heldIn}
 use Rattle.paths.specs.LookAhead.{ahead, frameOr, rowOr, firstAhead, secondAhead, rowAhead}
 use Rattle.stages.specs.Room.{most, edges, room}
 use Rattle.stages.specs.Tables.{beyond}
-use Rattle.stages.specs.Listed.{padded, tableOf}
 use Rattle.stages.specs.Edges.{edge, speechBefore}
 use Rattle.stages.specs.Kept.{framesOf, rowsOf}
 use Rattle.stages.specs.Places.{Climbs, countBelow, placeBefore}
 use Rattle.stages.specs.Filler.{Ascends, stretch, startAt, noCost, Priced}
 use Rattle.stages.specs.Ahead.{Within, LooksAhead}
 use Rattle.stages.specs.Parts.{Fit, FitList, costOf, Fills, Sees}
-use Rattle.stages.proofs.Listed.{table-at, table-same, length-table, length-padded}
 use Rattle.stages.proofs.Edges.{edge-in, edge-end, edges-climb}
 use Rattle.stages.proofs.Speech.{speech-split}
-use Rattle.stages.proofs.Places.{either, below-le, climbs-padded, count-padded}
+use Rattle.stages.proofs.Places.{below-le, climbs-padded, count-padded}
 use Rattle.stages.proofs.Held.{Below, kept-below, kept-climbs, kept-few, held-count, held-on, all-below, ahead-drop, figure-from, tail-drop}
 
 -- What holds of the kept anchors of a list of the record.
@@ -74,7 +75,7 @@ module _ {mask : List ℕ} {anchors : List Anchor} {frames bounds places : List 
 
   -- the count before an edge is that of the anchors held from the start up to it
   held-at : (j : ℕ) → j ≤ length bounds → getD places j 0 ≡ length (heldIn anchors 0 (edge bounds (length mask) j))
-  held-at j h = either j (length bounds) inside outside
+  held-at j h = by-order j (length bounds) inside outside
     where
       inside : j < length bounds → getD places j 0 ≡ length (heldIn anchors 0 (edge bounds (length mask) j))
       inside k =

@@ -3,8 +3,8 @@ use Prim.Native.Nat.{ℕ, _+_, _*_, _≤_, _<_}
 use mathlib.Core.Path.{_≡_}
 use mathlib.Core.List.{List}
 use lib.ListN.{length, getD}
+use Rattle.laws.specs.Listed.{tableOf}
 use Rattle.stages.specs.Room.{most}
-use Rattle.stages.specs.Listed.{tableOf}
 use Rattle.stages.specs.Tables.{tableAt}
 
 -- the places of the first `size` boundaries leave two frames and a row to read

@@ -4,10 +4,10 @@ use mathlib.Core.Path.{_≡_}
 use mathlib.Core.List.{List}
 use lib.ListN.{length, getD}
 use lib.Ieee.{Float, binary64, ofBits, neg}
+use Rattle.laws.specs.Listed.{tableOf}
 use Rattle.phrase.specs.declared.costs.Costs.{Costs}
 use Rattle.phrase.specs.Filler.{fillerCost}
 use Rattle.stages.specs.Room.{most}
-use Rattle.stages.specs.Listed.{tableOf}
 
 -- The count before edge j is not below that before edge i.
 pub record Rises (counts : List ℕ) (i j : ℕ) : Type 0 where

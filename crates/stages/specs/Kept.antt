@@ -3,9 +3,9 @@ use Prim.Native.Nat.{ℕ}
 use mathlib.Core.Path.{_≡_}
 use mathlib.Core.List.{List, map}
 use lib.ListN.{length}
+use Rattle.laws.specs.Listed.{padded}
 use Rattle.paths.specs.Anchors.{Anchor}
 use Rattle.stages.specs.Room.{room}
-use Rattle.stages.specs.Listed.{padded}
 use Rattle.stages.specs.Tables.{beyond}
 
 abbrev pub framesOf : List Anchor → List ℕ

@@ -1,7 +1,6 @@
 -- The definitions of this layer. Tables says what the tables of a stage hold, and Made for which phrases and stages they stand;
 -- the others say what the parts hold that they are made of.
 pub mod Room
-pub mod Listed
 pub mod Edges
 pub mod Tables
 pub mod Kept

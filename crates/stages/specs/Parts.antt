@@ -4,6 +4,7 @@ use mathlib.Core.Path.{_≡_}
 use mathlib.Core.List.{List}
 use lib.ListN.{length, getD}
 use lib.Ieee.{Float, neg}
+use Rattle.laws.specs.Listed.{tableOf}
 use Rattle.phrase.specs.declared.costs.Costs.{Costs}
 use Rattle.phrase.specs.Filler.{fillerCost}
 use Rattle.paths.specs.Frames.{Increasing, speechIn}
@@ -11,7 +12,6 @@ use Rattle.paths.specs.Anchors.{Anchor, heldIn}
 use Rattle.paths.specs.LookAhead.{firstAhead, secondAhead, rowAhead}
 use Rattle.stages.specs.Room.{most}
 use Rattle.stages.specs.Tables.{beyond}
-use Rattle.stages.specs.Listed.{tableOf}
 use Rattle.stages.specs.Edges.{edge}
 use Rattle.stages.specs.Filler.{noCost}
 

@@ -5,9 +5,9 @@ use mathlib.Core.Bool.{cond}
 use mathlib.Core.List.{List, [], _∷_}
 use lib.Dec.{ltb}
 use lib.ListN.{length}
+use Rattle.laws.specs.Listed.{padded, tableOf}
 use Rattle.paths.specs.Anchors.{Anchor}
 use Rattle.stages.specs.Room.{edges, room}
-use Rattle.stages.specs.Listed.{padded, tableOf}
 use Rattle.stages.specs.Kept.{framesOf, rowsOf}
 use Rattle.stages.specs.Tables.{beyond}
 use Rattle.stages.specs.Edges.{edge}

@@ -9,7 +9,7 @@ ghost use mathlib.Core.Path.{_≡_};
 ghost use Prim.Native.Nat.{_*_, _<_, _≤_};
 ghost use lib.ListN.{length, getD};
 ghost use Rattle.stages.specs.Room.{most};
-ghost use Rattle.stages.specs.Listed.{written};
+ghost use Rattle.laws.specs.Listed.{written};
 ghost use Rattle.stages.specs.Ahead.{Within, Reaches, Lays};
 
 // The entries of a list at `n` places.

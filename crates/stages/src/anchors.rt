@@ -7,7 +7,7 @@ ghost use Rattle.paths.specs.Frames.{Increasing, within as isWithin};
 ghost use Rattle.paths.specs.Anchors.{keptIn};
 ghost use Rattle.paths.specs.Passes.{nonEmpty};
 ghost use Rattle.stages.specs.Room.{most, edges, room};
-ghost use Rattle.stages.specs.Listed.{written};
+ghost use Rattle.laws.specs.Listed.{written};
 ghost use Rattle.stages.specs.Tables.{beyond};
 ghost use Rattle.stages.specs.Kept.{Keeps};
 ghost use Rattle.stages.specs.Places.{Climbs, countBelow, placeBefore, Placed};

@@ -5,7 +5,7 @@ ghost use Prim.Native.Nat.{_+_, _<_, _≤_, _^_, min};
 ghost use lib.ListN.{length};
 ghost use Rattle.paths.specs.Frames.{Increasing, weight as weightOf, speechIn};
 ghost use Rattle.stages.specs.Room.{most};
-ghost use Rattle.stages.specs.Listed.{written};
+ghost use Rattle.laws.specs.Listed.{written};
 ghost use Rattle.stages.specs.Edges.{speechBefore};
 
 // What a frame with this mask byte adds to a speech count.

@@ -15,7 +15,7 @@ ghost use Rattle.paths.specs.Anchors.{keptIn};
 ghost use Rattle.stages.specs.Room.{most};
 ghost use Rattle.stages.specs.Parts.{Fit, FitList, Fills};
 ghost use Rattle.stages.specs.Filler.{Rises, Counts, stretch, startAt, Priced};
-ghost use Rattle.stages.specs.Listed.{written};
+ghost use Rattle.laws.specs.Listed.{written};
 ghost use Rattle.stages.specs.Tables.{tableAt};
 
 // The cost of the stretch from edge `i` to edge `j`, of which `speech` and `nuclei` have the counts before each edge.

@@ -10,17 +10,17 @@ use borrow.Author.Tests.{ltb-false, eq-eqb, ne-eqb}
 use lib.Dec.{ltb}
 use lib.ListN.{length}
 use denote.Ref.{now}
+use Rattle.laws.proofs.Choices.{neither-left, taken, passed}
 use Rattle.record.specs.Edition.{edition1, Moderate}
 use Rattle.record.specs.Bounds.{Reaching, Within, CandidatesRead}
 use Rattle.record.specs.Layout.{trailerStart, trailerOf, layoutFrom, layoutOf}
-use Rattle.record.specs.Conditions.{recordBytes, stub, otherEdition, oversized, overreaching, badTrack, badCost, bare}
+use Rattle.record.specs.Conditions.{recordBytes, stub, otherEdition, oversized, overreaching, badTrack, badCost}
 use Rattle.record.specs.Refusals.{answer, firstOf, candidateRules, refusalOf}
 use Rattle.record.specs.declared.limits.Limits.{Limits}
 use Rattle.record.specs.declared.trailer.Trailer.{Trailer}
 use Rattle.record.specs.declared.layout.Layout.{Layout}
 use Rattle.record.specs.declared.refusal.Refusal.{Refusal}
 use Rattle.record.specs.declared.refusal.Refusal.the-variants.{Stub}
-use Rattle.record.proofs.Tests.{or-left, taken, passed}
 use Rattle.record.proofs.Sizes.{sized, reaching, inside, within-layout, candidates-layout, moderate}
 use Rattle.record.proofs.Chain.{chain, afterStub, afterEdition, afterSize, afterReach, afterTrack, afterCost, afterBare}
 use Rattle.checks.proofs.check.Statement.{statement}
@@ -47,15 +47,15 @@ same1 : (c : tie.After-stub) → stub (bytes-of (c .before)) ≡ c .stub .result
 same1 c = sym (c .stub .ensures)
 
 returns : tie.Need-returns
-returns c = refused _ (taken (stub (bytes-of (c .before .before))) _ _ (same1 (c .before) ∙ c .if1 .taken) ∙ chained _)
+returns c = refused _ (taken _ (same1 (c .before) ∙ c .if1 .taken) ∙ chained _)
 
 left1 : (c : tie.Else1) → afterStub edition1 (bytes-of (c .before .before)) ≡ refusalOf (bytes-of (c .before .before))
-left1 c = passed (stub (bytes-of (c .before .before))) _ _ (same1 (c .before) ∙ c .if1 .left) refl ∙ chained _
+left1 c = passed _ (same1 (c .before) ∙ c .if1 .left) refl ∙ chained _
 
 long-enough : (c : tie.Else1) → 64 ≤ length (bytes-of (c .before .before))
 long-enough c =
     let bytes = bytes-of (c .before .before) in
-    ltb-false _ _ (or-left (ltb (length bytes) 64) (ltb recordBytes (length bytes)) (same1 (c .before) ∙ c .if1 .left))
+    ltb-false _ _ (neither-left (ltb (length bytes) 64) (ltb recordBytes (length bytes)) (same1 (c .before) ∙ c .if1 .left))
 
 -- ---- 2
 
@@ -73,10 +73,10 @@ same2 c = ap₂ otherEdition (sym (c .before .before .edition-1 .ensures)) (sym 
 
 returns-2 : tie.Need-returns-2
 returns-2 c =
-    refused _ (taken (otherEdition edition1 (trailerOf (bytes-of (c .before .before .before .before .before .before)))) _ _ (same2 (c .before) ∙ c .if2 .taken) ∙ left1 (c .before .before .before .before))
+    refused _ (taken _ (same2 (c .before) ∙ c .if2 .taken) ∙ left1 (c .before .before .before .before))
 
 left2 : (c : tie.Else2) → afterEdition edition1 (bytes-of (c .before .before .before .before .before .before)) ≡ refusalOf (bytes-of (c .before .before .before .before .before .before))
-left2 c = passed (otherEdition edition1 (trailerOf (bytes-of (c .before .before .before .before .before .before)))) _ _ (same2 (c .before) ∙ c .if2 .left) refl ∙ left1 (c .before .before .before .before)
+left2 c = passed _ (same2 (c .before) ∙ c .if2 .left) refl ∙ left1 (c .before .before .before .before)
 
 -- ---- 3
 
@@ -88,10 +88,10 @@ same3 c = ap₂ oversized (sym (c .before .before .before .before .edition-1 .en
 
 returns-3 : tie.Need-returns-3
 returns-3 c =
-    refused _ (taken (oversized edition1 (trailerOf (bytes-of (c .before .before .before .before .before .before .before .before)))) _ _ (same3 (c .before) ∙ c .if3 .taken) ∙ left2 (c .before .before))
+    refused _ (taken _ (same3 (c .before) ∙ c .if3 .taken) ∙ left2 (c .before .before))
 
 left3 : (c : tie.Else3) → afterSize edition1 (bytes-of (c .before .before .before .before .before .before .before .before)) ≡ refusalOf (bytes-of (c .before .before .before .before .before .before .before .before))
-left3 c = passed (oversized edition1 (trailerOf (bytes-of (c .before .before .before .before .before .before .before .before)))) _ _ (same3 (c .before) ∙ c .if3 .left) refl ∙ left2 (c .before .before)
+left3 c = passed _ (same3 (c .before) ∙ c .if3 .left) refl ∙ left2 (c .before .before)
 
 -- ---- 4
 
@@ -112,12 +112,12 @@ same4 c =
 returns-4 : tie.Need-returns-4
 returns-4 c =
     let bytes = bytes-of (c .before .before .before .before .before .before .before .before .before .before) in
-    refused _ (taken (overreaching edition1 (trailerStart bytes) (trailerOf bytes)) _ _ (same4 (c .before) ∙ c .if4 .taken) ∙ left3 (c .before .before))
+    refused _ (taken _ (same4 (c .before) ∙ c .if4 .taken) ∙ left3 (c .before .before))
 
 left4 : (c : tie.Else4) → afterReach edition1 (bytes-of (c .before .before .before .before .before .before .before .before .before .before)) ≡ refusalOf (bytes-of (c .before .before .before .before .before .before .before .before .before .before))
 left4 c =
     let bytes = bytes-of (c .before .before .before .before .before .before .before .before .before .before) in
-    passed (overreaching edition1 (trailerStart bytes) (trailerOf bytes)) _ _ (same4 (c .before) ∙ c .if4 .left) refl ∙ left3 (c .before .before)
+    passed _ (same4 (c .before) ∙ c .if4 .left) refl ∙ left3 (c .before .before)
 
 -- ---- the layout
 
@@ -152,12 +152,12 @@ same5 c = ap (badTrack _) (sym (laid (c .before))) ∙ sym (c .bad-track .ensure
 returns-5 : tie.Need-returns-5
 returns-5 c =
     let bytes = bytes-of (c .before .before .before .before .before .before .before .before .before .before .before .before .before) in
-    refused _ (taken (badTrack bytes (layoutOf bytes)) _ _ (same5 (c .before) ∙ c .if5 .taken) ∙ left4 (c .before .before .before))
+    refused _ (taken _ (same5 (c .before) ∙ c .if5 .taken) ∙ left4 (c .before .before .before))
 
 left5 : (c : tie.Else5) → afterTrack edition1 (bytes-of (c .before .before .before .before .before .before .before .before .before .before .before .before .before)) ≡ refusalOf (bytes-of (c .before .before .before .before .before .before .before .before .before .before .before .before .before))
 left5 c =
     let bytes = bytes-of (c .before .before .before .before .before .before .before .before .before .before .before .before .before) in
-    passed (badTrack bytes (layoutOf bytes)) _ _ (same5 (c .before) ∙ c .if5 .left) refl ∙ left4 (c .before .before .before)
+    passed _ (same5 (c .before) ∙ c .if5 .left) refl ∙ left4 (c .before .before .before)
 
 -- ---- 6
 
@@ -170,12 +170,12 @@ same6 c = ap (badCost _) (sym (laid (c .before .before .before))) ∙ sym (c .ba
 returns-6 : tie.Need-returns-6
 returns-6 c =
     let bytes = bytes-of (c .before .before .before .before .before .before .before .before .before .before .before .before .before .before .before) in
-    refused _ (taken (badCost bytes (layoutOf bytes)) _ _ (same6 (c .before) ∙ c .if6 .taken) ∙ left5 (c .before .before))
+    refused _ (taken _ (same6 (c .before) ∙ c .if6 .taken) ∙ left5 (c .before .before))
 
 left6 : (c : tie.Else6) → afterCost edition1 (bytes-of (c .before .before .before .before .before .before .before .before .before .before .before .before .before .before .before)) ≡ refusalOf (bytes-of (c .before .before .before .before .before .before .before .before .before .before .before .before .before .before .before))
 left6 c =
     let bytes = bytes-of (c .before .before .before .before .before .before .before .before .before .before .before .before .before .before .before) in
-    passed (badCost bytes (layoutOf bytes)) _ _ (same6 (c .before) ∙ c .if6 .left) refl ∙ left5 (c .before .before)
+    passed _ (same6 (c .before) ∙ c .if6 .left) refl ∙ left5 (c .before .before)
 
 -- ---- 7
 
@@ -183,12 +183,12 @@ returns-7 : tie.Need-returns-7
 returns-7 c =
     let bytes = bytes-of (c .before .before .before .before .before .before .before .before .before .before .before .before .before .before .before .before .before) in
     let none = ap (λ (at : Layout). at .candidates .count) (sym (laid (c .before .before .before .before .before .before))) ∙ c .if7 .taken in
-    refused _ (taken (bare (layoutOf bytes)) _ _ (eq-eqb _ 0 none) ∙ left6 (c .before .before))
+    refused _ (taken _ (eq-eqb _ 0 none) ∙ left6 (c .before .before))
 
 left7 : (c : tie.Else7) → afterBare edition1 (bytes-of (c .before .before .before .before .before .before .before .before .before .before .before .before .before .before .before .before .before)) ≡ refusalOf (bytes-of (c .before .before .before .before .before .before .before .before .before .before .before .before .before .before .before .before .before))
 left7 c =
     let bytes = bytes-of (c .before .before .before .before .before .before .before .before .before .before .before .before .before .before .before .before .before) in
-    passed (bare (layoutOf bytes)) _ _ (ne-eqb _ 0 (λ none. c .if7 .left (ap (λ (at : Layout). at .candidates .count) (laid (c .before .before .before .before .before .before)) ∙ none))) refl
+    passed _ (ne-eqb _ 0 (λ none. c .if7 .left (ap (λ (at : Layout). at .candidates .count) (laid (c .before .before .before .before .before .before)) ∙ none))) refl
     ∙ left6 (c .before .before)
 
 -- ---- 8 to 10

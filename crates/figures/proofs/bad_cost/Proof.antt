@@ -7,9 +7,9 @@ use Prim.Native.Nat.{ℕ, _+_, _*_, _<_}
 use borrow.Author.Tests.{lt-ltb}
 use lib.Dec.{ltb}
 use denote.Ref.{now}
+use Rattle.laws.proofs.Choices.{or-found, or-rest}
 use Rattle.record.specs.Conditions.{badScores, badFigures, badTable, badCost, firstTable, secondTable}
 use Rattle.record.specs.declared.layout.Layout.{Layout}
-use Rattle.record.proofs.Tests.{or-found, or-rest}
 use borrow.Author.Needs.{needs}
 use Rattle.figures.proofs.bad_cost.Statement.{statement}
 use Rattle.figures.proofs.bad_cost.Tie as tie

@@ -5,7 +5,7 @@ use borrow.Author.Needs.{needs}
 use lib.Dec.{T}
 use lib.Ieee.{binary32}
 use lib.Ieee.Bits.{nanBits-is}
-use Rattle.ieee_vectors.proofs.Patterns.{number-bits}
+use Rattle.ieee.proofs.Pattern.{number-bits}
 use Rattle.ieee_vectors.proofs.f32_of.Statement.{statement}
 use Rattle.ieee_vectors.proofs.f32_of.Tie as tie
 

@@ -1,7 +1,7 @@
 -- A pattern above an infinity's is not read: what is left is no NaN.
 use borrow.Author.Needs.{needs}
 use lib.Ieee.{binary64}
-use Rattle.ieee_vectors.proofs.Patterns.{number-bits}
+use Rattle.ieee.proofs.Pattern.{number-bits}
 use Rattle.ieee_vectors.proofs.f64_of.Statement.{statement}
 use Rattle.ieee_vectors.proofs.f64_of.Tie as tie
 

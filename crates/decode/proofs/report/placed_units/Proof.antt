@@ -5,8 +5,8 @@ use mathlib.Core.Path.{_≡_, ap, _∙_}
 use native.Mathlib.Omega.{arith}
 use borrow.Author.Needs.{needs}
 use lib.ListN.{length, getD}
-use Rattle.stages.specs.Listed.{tableOf}
-use Rattle.stages.proofs.Listed.{table-none, table-more, length-table}
+use Rattle.laws.proofs.Listed.{table-none, table-more, length-table}
+use Rattle.laws.specs.Listed.{tableOf}
 use Rattle.decode.specs.declared.report.PlacedUnit.{PlacedUnit}
 use Rattle.decode.specs.Places.{placeOf, placeAt}
 use Rattle.decode.proofs.report.placed_units.Statement.{statement}

@@ -2,11 +2,11 @@
 use mathlib.Core.Path.{_≡_, sym, ap, _∙_}
 use mathlib.Core.Bool.{Bool}
 use borrow.Author.Needs.{needs}
+use Rattle.laws.proofs.Choices.{taken, passed}
 use Rattle.frames.specs.Outcome.{Outcome, accepted}
 use Rattle.evidence.specs.CreakyTail.{creakyTailOf, tailAfter, lastPitched}
 use Rattle.frames.specs.declared.list.Nearest.{Nearest}
 use Rattle.frames.specs.declared.list.Nearest.the-variants.{None, At}
-use Rattle.frames.proofs.Checks.{taken, passed}
 use Rattle.evidence.proofs.evidence.creaky_tail.Statement.{statement}
 use Rattle.evidence.proofs.evidence.creaky_tail.Tie as tie
 

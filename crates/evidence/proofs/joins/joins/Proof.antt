@@ -2,9 +2,9 @@
 use mathlib.Core.Path.{ap₂}
 use mathlib.Core.Bool.{Bool}
 use borrow.Author.Needs.{needs}
+use Rattle.laws.proofs.Choices.{taken, passed}
 use Rattle.evidence.specs.Joins.{Edges, joinsOf}
 use Rattle.frames.specs.Outcome.{Outcome, accepted}
-use Rattle.frames.proofs.Checks.{taken, passed}
 use Rattle.evidence.proofs.joins.joins.Statement.{statement}
 use Rattle.evidence.proofs.joins.joins.Tie as tie
 

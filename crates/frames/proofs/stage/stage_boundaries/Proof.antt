@@ -1,7 +1,7 @@
 -- `stage_boundaries`: either arm returns the slice that the stage word picks.
 use mathlib.Core.Path.{refl}
 use borrow.Author.Tests.{eq-eqb, ne-eqb}
-use Rattle.frames.proofs.Checks.{taken, passed}
+use Rattle.laws.proofs.Choices.{taken, passed}
 use Rattle.frames.proofs.stage.stage_boundaries.Statement.{statement}
 use Rattle.frames.proofs.stage.stage_boundaries.Tie as tie
 

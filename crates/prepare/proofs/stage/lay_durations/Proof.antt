@@ -4,9 +4,10 @@ use mathlib.Core.Path.{_∙_}
 use mathlib.Core.List.{List}
 use native.Mathlib.Omega.{arith}
 use lib.Ieee.{Float}
+use Rattle.laws.proofs.Listed.{written-full}
+use Rattle.laws.proofs.Filling.{Filling, filling-none, filling-more, filling-all}
 use Rattle.paths.specs.Units.{shortestUnit}
 use Rattle.stages.specs.Filler.{noCost}
-use Rattle.stages.proofs.Listed.{Filling, filling-none, filling-more, filling-all, written-full}
 use Rattle.record.specs.Meaning.{phraseOf}
 use Rattle.record.specs.Reading.{stageOf}
 use Rattle.record.specs.declared.read.Which.{Which}

@@ -5,10 +5,10 @@ use mathlib.Core.List.{List, [], _∷_}
 use native.Mathlib.Omega.{arith}
 use lib.ListN.{length, getD, replicate, length-replicate}
 use borrow.Rule.Slice.PartMut.{putMid}
+use Rattle.laws.proofs.Listed.{table-same, written-at, length-written}
+use Rattle.laws.specs.Listed.{tableOf, written}
 use Rattle.stages.specs.Room.{most}
-use Rattle.stages.specs.Listed.{tableOf, written}
 use Rattle.stages.specs.Ahead.{Reaches}
-use Rattle.stages.proofs.Listed.{table-same, written-at, length-written}
 use Rattle.stages.proofs.Parts.{Laying, laying-none, laying-long, laying-next}
 use Rattle.prepare.specs.Sides.{aheadSpan}
 use borrow.Author.Needs.{needs}

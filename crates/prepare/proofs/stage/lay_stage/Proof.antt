@@ -7,15 +7,13 @@ use lib.ListN.{length, take, drop, length-drop}
 use lib.Seq.{length-take-le, take-all, drop-at}
 use lib.Ieee.{Float}
 use borrow.Rule.Slice.PartMut.{putMid}
-use Rattle.paths.specs.Anchors.{keptIn}
+use Rattle.laws.proofs.Listed.{length-table}
 use Rattle.paths.specs.Units.{shortestUnit}
 use Rattle.record.specs.Meaning.{phraseOf}
 use Rattle.record.specs.Reading.{stageOf}
 use Rattle.record.specs.declared.read.Which.the-variants.{Nuclei}
 use Rattle.stages.specs.Filler.{noCost}
-use Rattle.stages.specs.Tables.{tableAt, tablesIn}
-use Rattle.stages.specs.Parts.{Fills}
-use Rattle.stages.proofs.Listed.{length-table}
+use Rattle.stages.specs.Tables.{tablesIn}
 use Rattle.stages.proofs.Parts.{both-long, in-front, in-rest}
 use Rattle.stages.proofs.OwnTables.{laid}
 use Rattle.prepare.specs.Sides.{durationsOf, TablesOf}

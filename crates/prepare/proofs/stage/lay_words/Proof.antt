@@ -5,13 +5,13 @@ use mathlib.Core.List.{List}
 use native.Mathlib.Omega.{arith}
 use lib.ListN.{length, getD, take, drop, length-drop}
 use lib.Seq.{length-take-le, drop-at}
+use Rattle.laws.proofs.Listed.{table-same}
 use Rattle.frames.specs.declared.span.Span.{Span}
 use Rattle.paths.specs.Anchors.{keptIn}
 use Rattle.paths.specs.LookAhead.{firstAhead}
 use Rattle.stages.specs.Room.{most, room}
 use Rattle.stages.specs.Tables.{beyond}
-use Rattle.stages.specs.Ahead.{Within, Reaches}
-use Rattle.stages.proofs.Listed.{table-same}
+use Rattle.stages.specs.Ahead.{Within}
 use Rattle.stages.proofs.Parts.{both-long, in-front, in-rest}
 use Rattle.stages.proofs.Stage.{Placing, kept-orderly, array-long, reads-within, first-at, sees}
 use Rattle.prepare.specs.Sides.{aheadSpan}

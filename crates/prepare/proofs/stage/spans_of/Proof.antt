@@ -1,12 +1,11 @@
 -- Each turn fills the edges of one span.
-use Prim.Native.Nat.{ℕ, _-_}
+use Prim.Native.Nat.{_-_}
 use mathlib.Core.Path.{ap}
-use mathlib.Core.List.{List}
 use native.Mathlib.Omega.{arith}
 use borrow.Author.Needs.{needs}
 use lib.ListN.{length, getD}
+use Rattle.laws.proofs.Filling.{Filling, filling-none, filling-more, filling-all}
 use Rattle.frames.specs.declared.span.Span.{Span}
-use Rattle.stages.proofs.Listed.{Filling, filling-none, filling-more, filling-all}
 use Rattle.prepare.specs.Sides.{aheadSpan}
 use Rattle.prepare.proofs.stage.spans_of.Statement.{statement}
 use Rattle.prepare.proofs.stage.spans_of.Tie as tie

@@ -3,13 +3,13 @@ use mathlib.Core.Path.{sym, ap, subst, subst⁻¹, _∙_}
 use Prim.Native.Nat.{ℕ, _<_}
 use denote.Ref.{now}
 use lib.ListN.{length, getD}
+use Rattle.laws.proofs.Listed.{length-listed, getD-listed}
 use Rattle.phrase.specs.Phrase.{Candidate}
 use Rattle.record.specs.Edition.{edition1}
 use Rattle.record.specs.Bounds.{CandidatesRead}
 use Rattle.record.specs.declared.limits.Limits.{Limits}
 use Rattle.record.proofs.Reading.{candidates-read, candidate-there, candidate-is}
 use Rattle.record.specs.Conditions.{columnAt}
-use Rattle.record.proofs.Below.{length-listed, getD-listed}
 use Rattle.record.proofs.Accepted.{fit}
 use native.Mathlib.Nat.{lt-of-lt-of-le}
 use borrow.Author.Needs.{needs}

@@ -6,10 +6,9 @@ use native.Mathlib.Nat.{le-antisymm, le-trans, lt-of-lt-of-le}
 use native.Mathlib.Omega.{arith}
 use lib.ListN.{length, drop, set}
 use denote.Ref.{now}
+use Rattle.laws.proofs.Listed.{length-listed, written-none, written-more, length-written}
+use Rattle.laws.specs.Listed.{listed, written}
 use Rattle.record.specs.Bytes.{u32At}
-use Rattle.record.specs.Below.{listed}
-use Rattle.record.proofs.Below.{length-listed}
-use Rattle.reading.proofs.Lists.{written, written-none, written-more, length-written}
 use Rattle.reading.proofs.read.copy_frames.Statement.{statement}
 use Rattle.reading.proofs.read.copy_frames.Tie as tie
 

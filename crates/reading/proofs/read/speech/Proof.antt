@@ -5,12 +5,12 @@ use mathlib.Core.Bool.{_&&_}
 use Prim.Native.Nat.{ℕ}
 use denote.Ref.{now}
 use lib.Dec.{eqb}
+use Rattle.laws.proofs.Choices.{taken, passed}
 use Rattle.phrase.specs.Phrase.{Phrase, spoken}
 use Rattle.record.specs.Meaning.{phraseAt}
 use Rattle.record.specs.Conditions.{noFrame, speechStart, speechEnd}
 use Rattle.record.proofs.Accepted.{meaning}
 use Rattle.record.proofs.Reading.{sections}
-use Rattle.record.proofs.Tests.{taken, passed}
 use Rattle.reading.proofs.read.speech.Statement.{statement}
 use Rattle.reading.proofs.read.speech.Tie as tie
 
@@ -34,14 +34,14 @@ returns : tie.Need-returns
 unfolding phraseAt
 returns c =
     let start = c .before .before .before .before .before .before in
-    taken _ _ _ (silence (c .before) ∙ c .if1 .taken) ∙ ap (λ (p : Phrase). p .speech) (meaning (start .pre))
+    taken _ (silence (c .before) ∙ c .if1 .taken) ∙ ap (λ (p : Phrase). p .speech) (meaning (start .pre))
 
 returns-2 : tie.Need-returns-2
 unfolding phraseAt
 returns-2 c =
     let start = c .before .before .before .before .before .before in
     ap₂ spoken (c .before .before .before .u32-at .ensures) (c .before .u32-at2 .ensures)
-    ∙ passed _ _ _ (silence (c .before) ∙ c .if1 .left) refl
+    ∙ passed _ (silence (c .before) ∙ c .if1 .left) refl
     ∙ ap (λ (p : Phrase). p .speech) (meaning (start .pre))
 
 pub speech-spec : {M : Type 1} → statement M

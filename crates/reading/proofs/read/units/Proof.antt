@@ -2,13 +2,13 @@
 use mathlib.Core.Path.{sym, ap, subst⁻¹, _∙_}
 use denote.Ref.{now}
 use lib.ListN.{length}
+use Rattle.laws.proofs.Listed.{length-listed}
 use Rattle.phrase.specs.Phrase.{Candidate}
 use Rattle.record.specs.Edition.{edition1}
 use Rattle.record.specs.Bounds.{CandidatesRead}
 use Rattle.record.specs.declared.limits.Limits.{Limits}
 use Rattle.record.proofs.Reading.{candidates-read, candidate-there, candidate-is}
 use Rattle.record.specs.Conditions.{unitsAt, columnAt}
-use Rattle.record.proofs.Below.{length-listed}
 use borrow.Author.Needs.{needs}
 use Rattle.reading.proofs.read.units.Statement.{statement}
 use Rattle.reading.proofs.read.units.Tie as tie

@@ -1,17 +1,10 @@
 -- A pattern above an infinity's is not read: what is left is no NaN's.
-use mathlib.Core.Path.{sym, subst}
-use mathlib.Core.Bool.{Bool, not}
-use Prim.Native.Nat.{ℕ, _+_, _*_, _%_, _≤_}
-use lib.Dec.{T}
-use lib.Arith.{le→nltb}
-use lib.Ieee.{Format, hid, ones, top, nanBits, binary64}
-use lib.Ieee.Bits.{nanBits-above}
+use Prim.Native.Nat.{_+_, _*_}
+use lib.Ieee.{binary64}
 use borrow.Author.Needs.{needs}
+use Rattle.ieee.proofs.Pattern.{number-bits}
 use Rattle.replay.proofs.input.float.Statement.{statement}
 use Rattle.replay.proofs.input.float.Tie as tie
-
-number-bits : (f : Format) (b : ℕ) → b % top f ≤ ones f * hid f → T (not (nanBits f b))
-number-bits f b h = subst (λ (t : Bool). T (not t)) (sym (nanBits-above f b)) (le→nltb (ones f * hid f) (b % top f) h)
 
 mul-bits : tie.Need-mul-bits
 mul-bits c = search needs

@@ -3,14 +3,13 @@ use mathlib.Core.Path.{_≡_, sym, _∙_}
 use Prim.Native.Nat.{ℕ, _-_, _≤_}
 use mathlib.Core.Bool.{Bool, not, false}
 use mathlib.Core.List.{List}
-use native.Mathlib.Omega.{arith}
 use lib.Dec.{eqb, ltb}
 use lib.ListN.{length, getD}
+use Rattle.laws.proofs.Choices.{or-found, or-rest}
 use Rattle.record.specs.Below.{anyBelow}
 use Rattle.record.proofs.Below.{any-none, any-more, any-found, any-end}
 use Rattle.replay.proofs.Cells.{unequal, equal}
 use borrow.Author.Tests.{lt-ltb, le-ltb}
-use Rattle.record.proofs.Tests.{or-found, or-rest}
 use Rattle.replay.specs.Marks.{wordOrMark, unlike}
 use borrow.Author.Needs.{needs}
 use Rattle.replay.proofs.marks.not_written.Statement.{statement}

@@ -6,10 +6,10 @@ use lib.Dec.{ltb}
 use lib.ListN.{length}
 use borrow.Author.Needs.{needs}
 use borrow.Author.Tests.{lt-ltb, le-ltb}
+use Rattle.laws.proofs.Choices.{neither-left, taken, passed}
 use Rattle.frames.specs.Outcome.{accepted, anyAbove, lastFrame}
 use Rattle.spans.specs.Spans.{tbuSpansOf}
 use Rattle.frames.proofs.Ascending.{ascending-le}
-use Rattle.frames.proofs.Checks.{taken, passed, or-l}
 use Rattle.spans.proofs.spans.tbu_spans.Statement.{statement}
 use Rattle.spans.proofs.spans.tbu_spans.Tie as tie
 
@@ -41,7 +41,7 @@ fit : (c : tie.Else2) → unfitAt c ≡ false
 fit c = rw (c .before .before .any-above .ensures, c .before .any-above2 .ensures) at (c .if2 .left)
 
 within : (c : tie.Else2) → anyAbove lastFrame (c .before .before .before .before .before .before .before .args .nuclei .now) ≡ false
-within c = or-l _ _ (or-l _ _ (or-l _ _ (fit c)))
+within c = neither-left _ _ (neither-left _ _ (neither-left _ _ (fit c)))
 
 distinct-requires : tie.Need-distinct-requires
 distinct-requires c κs = within c

@@ -1,10 +1,9 @@
 -- Each turn copies one entry.
-use Prim.Native.Nat.{_+_, _-_, _≤_, _<_}
-use mathlib.Core.Path.{_≡_, refl, sym, ap, _∙_}
+use Prim.Native.Nat.{_-_}
+use mathlib.Core.Path.{refl}
 use native.Mathlib.Omega.{arith}
-use borrow.Author.Needs.{needs}
-use lib.ListN.{length, getD, replicate}
-use Rattle.stages.proofs.Listed.{Filling, filling-none, filling-more, filling-all}
+use lib.ListN.{length, getD}
+use Rattle.laws.proofs.Filling.{Filling, filling-none, filling-more, filling-all}
 use Rattle.stages.proofs.ahead.copy.Statement.{statement}
 use Rattle.stages.proofs.ahead.copy.Tie as tie
 

@@ -5,10 +5,10 @@ use mathlib.Core.List.{List, [], _∷_}
 use native.Mathlib.Omega.{arith}
 use lib.ListN.{length, getD, take, drop}
 use borrow.Rule.Slice.PartMut.{putMid}
+use Rattle.laws.proofs.Listed.{table-same}
+use Rattle.laws.specs.Listed.{tableOf}
 use Rattle.stages.specs.Room.{most}
-use Rattle.stages.specs.Listed.{tableOf}
 use Rattle.stages.specs.Ahead.{Reaches}
-use Rattle.stages.proofs.Listed.{table-same}
 use Rattle.stages.proofs.Parts.{Laying, laying-none, laying-long, laying-next, rest-length, rest-at}
 use borrow.Author.Needs.{needs}
 use Rattle.stages.proofs.ahead.lay_ahead.Statement.{statement}

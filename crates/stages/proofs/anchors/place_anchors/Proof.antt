@@ -1,13 +1,13 @@
 -- The kept anchors ascend, so that each boundary finds its place among them.
 use Prim.Native.Nat.{ℕ, _+_}
-use mathlib.Core.Path.{_≡_, ap, _∙_}
+use mathlib.Core.Path.{ap, _∙_}
 use native.Mathlib.Omega.{arith}
 use lib.ListN.{length, length-replicate}
+use Rattle.laws.proofs.Listed.{written-table}
+use Rattle.laws.specs.Listed.{written}
 use Rattle.paths.specs.Anchors.{keptIn}
 use Rattle.stages.specs.Room.{edges}
-use Rattle.stages.specs.Listed.{written}
 use Rattle.stages.specs.Places.{placeBefore}
-use Rattle.stages.proofs.Listed.{written-table}
 use Rattle.stages.proofs.Stage.{Orderly, kept-orderly, array-climbs, array-ends, array-long}
 use borrow.Author.Needs.{needs}
 use Rattle.stages.proofs.anchors.place_anchors.Statement.{statement}

@@ -3,10 +3,10 @@ use Prim.Native.Nat.{ℕ, _+_, _≤_, _-_}
 use mathlib.Core.Path.{_≡_, sym, ap, _∙_}
 use native.Mathlib.Omega.{arith}
 use lib.ListN.{length, getD, set}
+use Rattle.laws.proofs.Filling.{Filling, filling-none, filling-more, filling-all}
 use Rattle.stages.specs.Edges.{edge}
 use Rattle.stages.specs.Tables.{beyond}
 use Rattle.stages.specs.Places.{countBelow, placeBefore}
-use Rattle.stages.proofs.Listed.{Filling, filling-none, filling-more, filling-all}
 use Rattle.stages.proofs.Edges.{edge-in, edge-end, edge-ascends}
 use Rattle.stages.proofs.Places.{below-mono}
 use Rattle.stages.proofs.anchors.place_boundaries.Statement.{statement}

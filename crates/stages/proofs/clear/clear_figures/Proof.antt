@@ -1,10 +1,10 @@
 -- Each turn clears one entry.
-use Prim.Native.Nat.{_+_, _-_, _≤_, _<_}
-use mathlib.Core.Path.{_≡_, refl, sym, ap, _∙_}
+use Prim.Native.Nat.{_-_}
+use mathlib.Core.Path.{refl, _∙_}
 use native.Mathlib.Omega.{arith}
-use borrow.Author.Needs.{needs}
-use lib.ListN.{length, getD, replicate}
-use Rattle.stages.proofs.Listed.{Filling, filling-none, filling-more, filling-all, written-same}
+use lib.ListN.{length}
+use Rattle.laws.proofs.Listed.{written-same}
+use Rattle.laws.proofs.Filling.{Filling, filling-none, filling-more, filling-all}
 use Rattle.stages.specs.Filler.{noCost}
 use Rattle.stages.proofs.clear.clear_figures.Statement.{statement}
 use Rattle.stages.proofs.clear.clear_figures.Tie as tie

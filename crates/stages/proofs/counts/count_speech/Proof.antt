@@ -4,9 +4,9 @@ use mathlib.Core.Path.{_≡_, sym, ap, _∙_}
 use native.Mathlib.Omega.{arith}
 use borrow.Author.Needs.{needs}
 use lib.ListN.{length, getD, set}
+use Rattle.laws.proofs.Filling.{Filling, filling-none, filling-more, filling-all}
 use Rattle.paths.specs.Frames.{speechIn}
 use Rattle.stages.specs.Edges.{edge, speechBefore}
-use Rattle.stages.proofs.Listed.{Filling, filling-none, filling-more, filling-all}
 use Rattle.stages.proofs.Edges.{edge-in, edge-end, ascends}
 use Rattle.stages.proofs.Speech.{speech-none, speech-on, speech-le}
 use Rattle.stages.proofs.counts.count_speech.Statement.{statement}

@@ -1,12 +1,8 @@
 -- Each turn fills the entry of one boundary.
-use Prim.Native.Nat.{_+_, _-_, _≤_, _<_}
-use mathlib.Core.Path.{_≡_, refl, sym, ap, _∙_}
+use Prim.Native.Nat.{_+_, _-_}
 use native.Mathlib.Omega.{arith}
-use borrow.Author.Needs.{needs}
-use lib.ListN.{length, getD, replicate}
-use Rattle.stages.proofs.Listed.{Filling, filling-none, filling-more, filling-all}
-use lib.Ieee.{neg}
-use Rattle.stages.specs.Filler.{startAt, stretch}
+use Rattle.laws.proofs.Filling.{Filling, filling-none, filling-more, filling-all}
+use Rattle.stages.specs.Filler.{stretch}
 use Rattle.stages.proofs.filler.gap_costs.Statement.{statement}
 use Rattle.stages.proofs.filler.gap_costs.Tie as tie
 

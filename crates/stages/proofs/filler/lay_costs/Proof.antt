@@ -6,8 +6,8 @@ use native.Mathlib.Omega.{arith}
 use lib.ListN.{getD}
 use lib.Ieee.{Float}
 use borrow.Rule.Slice.PartMut.{putMid}
+use Rattle.laws.specs.Listed.{tableOf}
 use Rattle.stages.specs.Room.{most}
-use Rattle.stages.specs.Listed.{tableOf}
 use Rattle.stages.specs.Filler.{startAt, stretch, noCost}
 use Rattle.stages.proofs.Parts.{Laying, laying-none, laying-long, laying-next}
 use borrow.Author.Needs.{needs}

@@ -3,11 +3,11 @@ use Prim.Native.Nat.{ℕ, _+_}
 use mathlib.Core.Path.{_≡_, refl, _∙_}
 use native.Mathlib.Omega.{arith}
 use lib.ListN.{length, length-replicate}
+use Rattle.laws.proofs.Listed.{written-table}
+use Rattle.laws.specs.Listed.{tableOf}
 use Rattle.paths.specs.Anchors.{keptIn}
 use Rattle.stages.specs.Room.{edges}
-use Rattle.stages.specs.Listed.{tableOf}
 use Rattle.stages.specs.Edges.{speechBefore}
-use Rattle.stages.proofs.Listed.{written-table}
 use Rattle.stages.proofs.Stage.{Placing, kept-orderly, speech-ascends, places-ascend, fills}
 use borrow.Author.Needs.{needs}
 use Rattle.stages.proofs.filler.lay_filler.Statement.{statement}

@@ -1,2 +1,0 @@
--- What the test program's proofs share.
-mod Patterns
