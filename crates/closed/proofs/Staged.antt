@@ -15,7 +15,7 @@ use Rattle.paths.specs.declared.passes.Pass.the-variants.{NucleiStrict, CountSt
 use Rattle.paths.specs.Frames.{Increasing}
 use Rattle.paths.specs.Anchors.{kept}
 use Rattle.paths.specs.StageProblem.{boundary}
-use Rattle.paths.specs.Passes.{passProblem, hasNucleus, nonEmpty}
+use Rattle.paths.specs.Passes.{passStage, passStrictness, passProblem, hasNucleus, nonEmpty}
 use Rattle.paths.proofs.Anchors.{keptIn-le}
 use Rattle.record.specs.declared.layout.Layout.{Layout}
 use Rattle.record.specs.Accepted.{StageFit, Laid}
@@ -29,7 +29,7 @@ use Rattle.stages.specs.Tables.{StageTables}
 use Rattle.stages.specs.Tables.{Tabled, beyond}
 use Rattle.closed.specs.Searched.{Agrees, Readable, scoreRows}
 use Rattle.closed.specs.Asked.{Candidate, columnsOf, cellsFor, Unused}
-use Rattle.closed.specs.Answered.{passStage, passSection, passStrictness}
+use Rattle.closed.specs.Answered.{passSection}
 use Rattle.closed.proofs.Bridge.{agrees, readable}
 
 -- what the tables of a stage are read by
@@ -122,12 +122,6 @@ module _ {bytes : List ℕ} {at : Layout} {costs : Costs} {candidate : ℕ} (ask
   pub pass-agrees :
       {t : StageTables} (pass : Pass) → Tabled (phraseOf bytes) (passStage (phraseOf bytes) pass) t →
       (columns : List ℕ) → Agrees (phraseOf bytes) columns (passStrictness pass) t (passProblem (phraseOf bytes) pass columns)
-  pass-agrees {t} pass tabled columns = go pass (stage-fits pass) tabled
-    where
-      go :
-          (pass : Pass) → Fits (passStage (phraseOf bytes) pass) → Tabled (phraseOf bytes) (passStage (phraseOf bytes) pass) t →
-          Agrees (phraseOf bytes) columns (passStrictness pass) t (passProblem (phraseOf bytes) pass columns)
-      go NucleiStrict f tabled = agrees (phraseOf bytes) (phraseOf bytes .nuclei) t tabled (f .anchorsUp) (f .boundsUp) (f .few) (f .last) short (passStrictness NucleiStrict) columns
-      go CountStrict f tabled = agrees (phraseOf bytes) (phraseOf bytes .added) t tabled (f .anchorsUp) (f .boundsUp) (f .few) (f .last) short (passStrictness CountStrict) columns
-      go CountRelaxed f tabled = agrees (phraseOf bytes) (phraseOf bytes .added) t tabled (f .anchorsUp) (f .boundsUp) (f .few) (f .last) short (passStrictness CountRelaxed) columns
-      go NucleiRelaxed f tabled = agrees (phraseOf bytes) (phraseOf bytes .nuclei) t tabled (f .anchorsUp) (f .boundsUp) (f .few) (f .last) short (passStrictness NucleiRelaxed) columns
+  pass-agrees {t} pass tabled columns =
+      let f = stage-fits pass in
+      agrees (phraseOf bytes) (passStage (phraseOf bytes) pass) t tabled (f .anchorsUp) (f .boundsUp) (f .few) (f .last) short (passStrictness pass) columns

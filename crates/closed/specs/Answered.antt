@@ -5,16 +5,13 @@ use mathlib.Core.List.{List, []}
 use mathlib.Core.Path.{_≡_}
 use lib.Ieee.{Float}
 use lib.ListN.{length}
-use Rattle.phrase.specs.Phrase.{Phrase, Stage}
-use Rattle.paths.specs.declared.passes.Strictness.{Strictness}
-use Rattle.paths.specs.declared.passes.Strictness.the-variants.{Strict, Relaxed}
+use Rattle.phrase.specs.Phrase.{Phrase}
 use Rattle.paths.specs.declared.passes.Pass.{Pass}
-use Rattle.paths.specs.declared.passes.Pass.the-variants.{NucleiStrict, CountStrict, CountRelaxed, NucleiRelaxed}
 use Rattle.paths.specs.CellRule.{chosenPath}
 use Rattle.record.specs.declared.layout.Layout.{Layout}
 use Rattle.record.specs.declared.layout.Section.{Section}
 use Rattle.paths.specs.Marks.{unitsOf}
-use Rattle.paths.specs.Passes.{passNumber, passProblem, speaks, hasNucleus, nonEmpty}
+use Rattle.paths.specs.Passes.{passNumber, ofPass, passProblem, speaks, hasNucleus, nonEmpty}
 use Rattle.paths.specs.Demand.{found, none, unvoiced, Answer as Demanded}
 use Rattle.paths.specs.Search.{orElse}
 use Rattle.stages.specs.Tables.{Tabled, tablesIn}
@@ -44,25 +41,9 @@ isFound (Found pass total) = true
 isFound None = false
 isFound Unvoiced = false
 
--- what a pass searches, and how
-abbrev pub passStage : Phrase → Pass → Stage
-passStage phrase NucleiStrict = phrase .nuclei
-passStage phrase CountStrict = phrase .added
-passStage phrase CountRelaxed = phrase .added
-passStage phrase NucleiRelaxed = phrase .nuclei
-
--- where its boundaries stand in the record
+-- where the boundaries of a pass's stage stand in the record
 abbrev pub passSection : Layout → Pass → Section
-passSection at NucleiStrict = at .boundaries
-passSection at CountStrict = at .added
-passSection at CountRelaxed = at .added
-passSection at NucleiRelaxed = at .boundaries
-
-abbrev pub passStrictness : Pass → Strictness
-passStrictness NucleiStrict = Strict
-passStrictness CountStrict = Strict
-passStrictness CountRelaxed = Relaxed
-passStrictness NucleiRelaxed = Relaxed
+passSection at pass = ofPass (at .boundaries) (at .added) pass
 
 -- one pass by itself
 abbrev pub passAnswer : Phrase → Pass → List ℕ → Demanded

@@ -9,12 +9,12 @@ use lib.ListN.{length, getD, length-replicate}
 use lib.Ieee.{Float, isNan}
 use Rattle.ieee.specs.Convert.{ClampedLog, clampedLog}
 use Rattle.ieee.proofs.Value.{finite-number}
-use Rattle.phrase.specs.Phrase.{Phrase, Stage, Candidate}
+use Rattle.phrase.specs.Phrase.{Phrase, Candidate}
 use Rattle.paths.specs.declared.passes.Strictness.{Strictness}
 use Rattle.paths.specs.declared.passes.Pass.{Pass}
 use Rattle.paths.specs.declared.passes.Pass.the-variants.{NucleiStrict, CountStrict, CountRelaxed, NucleiRelaxed}
 use Rattle.paths.specs.Path.{Path, count, Admitted}
-use Rattle.paths.specs.Passes.{passProblem, inOrder}
+use Rattle.paths.specs.Passes.{ofPass, passStage, passStrictness, passProblem, inOrder}
 use Rattle.paths.specs.Demand as D
 use Rattle.paths.specs.Demand.{Answer, answerNumber}
 use Rattle.paths.specs.Search.{chosen}
@@ -26,7 +26,7 @@ use Rattle.rows.specs.declared.trace.Units.{Units}
 use Rattle.rows.specs.Traced.{UnitsAre}
 use Rattle.closed.specs.declared.search.Answer.the-variants.{Found, None, Unvoiced}
 use Rattle.closed.specs.declared.search.Searched.{Searched}
-use Rattle.closed.specs.Answered.{Says, numberOf, passStage, passStrictness}
+use Rattle.closed.specs.Answered.{Says, numberOf}
 use Rattle.closed.specs.Asked.{columnsOf}
 use Rattle.closed.proofs.Bridge.{readable}
 use Rattle.record.specs.Edition.{edition1}
@@ -46,11 +46,10 @@ use Rattle.decode.specs.declared.plan.Plan.{Plan}
 use Rattle.decode.specs.declared.report.Reported.{Reported}
 use Rattle.decode.specs.declared.entry.Scored.{Scored}
 use Rattle.decoding.specs.Report.{lowEdge, highEdge, reportedIn, reportedUnits}
-use Rattle.decoding.specs.Report as Report
 use Rattle.decoding.specs.EntryOf.{missedTotal, missedUnits, totalOf, unitsFor, entryFor, entryBy, entryOf}
 use Rattle.decode.specs.Places.{Placeable, ReportedAll, missedAt, missedBy, Holds}
 use Rattle.decode.specs.Plans.{PlanOf, Worded}
-use Rattle.decode.specs.Scored.{wordsFor, MissedEntry, ScoredAs}
+use Rattle.decode.specs.Scored.{MissedEntry, ScoredAs}
 use Rattle.decoding.proofs.Demands.{answered}
 use Rattle.decoding.proofs.Units.{length-reportedIn}
 use Rattle.decode.proofs.Reporting as Reporting
@@ -58,12 +57,6 @@ use Rattle.decode.proofs.Said.{FoundPath, says-found, says-none, says-u
 use Rattle.decode.proofs.Tried.{added-exists}
 use Rattle.decoding.proofs.Admitted.{each-ok}
 use Rattle.decode.proofs.HeldUnits.{held-units, missed-hold}
-
-same-stage : (phrase : Phrase) (pass : Pass) → passStage phrase pass ≡ Report.stageOf phrase pass
-same-stage phrase NucleiStrict = refl
-same-stage phrase CountStrict = refl
-same-stage phrase CountRelaxed = refl
-same-stage phrase NucleiRelaxed = refl
 
 -- ---- the path's units, in the stage of its pass
 
@@ -136,22 +129,22 @@ module _ {bytes : List ℕ} {at : Layout} (h : Laid bytes at) where
         few : length (unitsOf (it .path)) ≤ 16
         few = omega (arith, units-few, few-units)
 
-        path-found : Reporting.Found phrase (passStage phrase pass) (passStrictness pass) (wordsFor words addedWords pass) (searched .units) (unitsOf (it .path))
+        path-found : Reporting.Found phrase (passStage phrase pass) (passStrictness pass) (ofPass words addedWords pass) (searched .units) (unitsOf (it .path))
         path-found = go pass (it .path) (it .units) few (shown .best .admitted) (shown .first)
           where
             go : (pass : Pass) (path : Path) → UnitsAre (searched .units) (unitsOf path) → length (unitsOf path) ≤ 16
                 → Admitted (passProblem phrase pass columns) path → D.FirstOf phrase columns pass (inOrder phrase)
-                → Reporting.Found phrase (passStage phrase pass) (passStrictness pass) (wordsFor words addedWords pass) (searched .units) (unitsOf path)
+                → Reporting.Found phrase (passStage phrase pass) (passStrictness pass) (ofPass words addedWords pass) (searched .units) (unitsOf path)
             go NucleiStrict path are few admitted first = found-in Nuclei _ columns (worded .lent .nuclei) are few admitted
             go CountStrict path are few admitted first = found-in Count _ columns (worded .lent .added (added-exists first tt)) are few admitted
             go CountRelaxed path are few admitted first = found-in Count _ columns (worded .lent .added (added-exists first tt)) are few admitted
             go NucleiRelaxed path are few admitted first = found-in Nuclei _ columns (worded .lent .nuclei) are few admitted
 
-        pub can-place : {own : List ℕ} {k : ℕ} → own ≡ wordsFor words addedWords pass → k ≡ length columns → Placeable own (searched .units) k
+        pub can-place : {own : List ℕ} {k : ℕ} → own ≡ ofPass words addedWords pass → k ≡ length columns → Placeable own (searched .units) k
         can-place s counted = coe 1 0 (i. Placeable (s i) (searched .units) ((counted ∙ sym units-few) i)) (Reporting.placeable path-found)
 
         module _ {own : List ℕ} {k id number : ℕ} {llr : Float} {units : Reported}
-            (s : own ≡ wordsFor words addedWords pass) (counted : k ≡ length columns) (named : id ≡ chosenOne .id) (numbered : number ≡ numberOf (searched .answer))
+            (s : own ≡ ofPass words addedWords pass) (counted : k ≡ length columns) (named : id ≡ chosenOne .id) (numbered : number ≡ numberOf (searched .answer))
             (clamped : ClampedLog total llr) (all : ReportedAll own (searched .units) k units) where
           holds : Holds (reportedIn phrase (passStage phrase pass) (unitsOf (it .path))) units
           holds =
@@ -162,7 +155,7 @@ module _ {bytes : List ℕ} {at : Layout} (h : Laid bytes at) where
           units-are =
               ap (λ (n : ℕ). unitsFrom (units .starts) (units .ends) (units .rows) n 0)
               (counted ∙ sym units-few ∙ sym (length-reportedIn phrase (passStage phrase pass) (unitsOf (it .path))))
-              ∙ held-units holds ∙ ap (λ (x : Stage). reportedIn phrase x (unitsOf (it .path))) (same-stage phrase pass)
+              ∙ held-units holds
 
           pub scored-found : ScoredAs (entryOf phrase chosenOne) (record { head = record { id = id; llr = llr; pass = number; units = k }; units = units })
           unfolding entryBy entryFor

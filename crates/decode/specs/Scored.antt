@@ -1,25 +1,15 @@
 -- An entry as the code holds it before it goes to its rank.
 use Prim.Native.Nat.{ℕ, _≤_}
 use mathlib.Core.Bool.{not}
-use mathlib.Core.List.{List}
 use mathlib.Core.Path.{_≡_}
 use lib.Dec.{T}
 use lib.ListN.{length}
 use lib.Ieee.{Float, isNan}
 use Rattle.ieee.specs.Convert.{clampedLog}
-use Rattle.paths.specs.declared.passes.Pass.{Pass}
-use Rattle.paths.specs.declared.passes.Pass.the-variants.{NucleiStrict, CountStrict, CountRelaxed, NucleiRelaxed}
 use Rattle.entries.specs.Entry.{Entry}
 use Rattle.entries.specs.EntryFrom.{entryFrom}
 use Rattle.decode.specs.declared.entry.Scored.{Scored}
 use Rattle.decode.specs.Places.{missedAt, missedBy}
-
--- the words of the stage that a pass searches
-abbrev pub wordsFor : List ℕ → List ℕ → Pass → List ℕ
-wordsFor words addedWords NucleiStrict = words
-wordsFor words addedWords CountStrict = addedWords
-wordsFor words addedWords CountRelaxed = addedWords
-wordsFor words addedWords NucleiRelaxed = words
 
 -- "No path: k empty spans at speech start", with the score "f32 k × unvoiced, widened, clamped"
 pub record MissedEntry (id k pass : ℕ) (score : Float) (at : ℕ) (r : Scored) : Type 0 where

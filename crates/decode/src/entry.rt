@@ -24,6 +24,7 @@ ghost use Rattle.closed.specs.Asked.{columnsOf, Unused};
 ghost use Rattle.entries.specs.Placing.{Inserted};
 ghost use Rattle.entries.specs.Ranking.{ranked};
 ghost use Rattle.entries.specs.Words.{allWords};
+ghost use Rattle.paths.specs.Passes.{ofPass};
 ghost use Rattle.paths.specs.Search.{chosen};
 ghost use Rattle.record.specs.Edition.{edition1};
 ghost use Rattle.record.specs.Meaning.{phraseOf};
@@ -31,7 +32,7 @@ ghost use Rattle.record.specs.Accepted.{Laid};
 ghost use Rattle.record.specs.Reading.{candidateOf};
 ghost use Rattle.decoding.specs.EntryOf.{entryOf, entriesOf};
 ghost use Rattle.decode.specs.Plans.{PlanOf, Worded, Lends};
-ghost use Rattle.decode.specs.Scored.{wordsFor, MissedEntry, ScoredAs};
+ghost use Rattle.decode.specs.Scored.{MissedEntry, ScoredAs};
 
 // An entry, not yet at its rank. Its units are the first of `units`.
 pub struct Scored {
@@ -41,7 +42,7 @@ pub struct Scored {
 
 // The words of the stage that a pass searches.
 fn words_for<'a>(words: &'a [u32], added_words: &'a [u32], pass: Pass) -> &'a [u32]
-    ensures { λ r. ⌜ now r ≡ wordsFor (now (words .entry)) (now («added_words» .entry)) pass ⌝ }
+    ensures { λ r. ⌜ now r ≡ ofPass (now (words .entry)) (now («added_words» .entry)) pass ⌝ }
 {
     match pass {
         Pass::NucleiStrict => words,

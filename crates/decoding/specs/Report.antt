@@ -5,23 +5,16 @@ use Prim.Native.Nat.{ℕ}
 use mathlib.Core.List.{List, [], _∷_, map, zipWith}
 use Rattle.phrase.specs.Phrase.{Phrase, Stage, Speech, silent, spoken}
 use Rattle.paths.specs.declared.passes.Pass.{Pass}
-use Rattle.paths.specs.declared.passes.Pass.the-variants.{NucleiStrict, CountStrict, CountRelaxed, NucleiRelaxed}
 use Rattle.paths.specs.Path.{Path}
 use Rattle.paths.specs.Marks.{Bounds, unitsOf}
 use Rattle.paths.specs.Anchors.{Anchor, kept, heldIn}
 use Rattle.paths.specs.StageProblem.{boundary}
 use Rattle.paths.specs.LookAhead.{rowOr}
+use Rattle.paths.specs.Passes.{passStage}
 use Rattle.spans.specs.Spans.{spanOf}
 use Rattle.frames.specs.declared.span.Span.{Span}
 use Rattle.clip.specs.Clip.{Placed, anchored, unanchored, reported}
 use Rattle.entries.specs.Entry.{ReportedUnit, noRow}
-
--- the stage that a pass searches, as in "by its own stage's boundaries"
-abbrev pub stageOf : Phrase → Pass → Stage
-stageOf phrase NucleiStrict = phrase .nuclei
-stageOf phrase CountStrict = phrase .added
-stageOf phrase CountRelaxed = phrase .added
-stageOf phrase NucleiRelaxed = phrase .nuclei
 
 -- "Speech start and end are the edges"; 0 without speech
 abbrev pub lowEdge : Speech → ℕ
@@ -64,6 +57,6 @@ unfoldable pub reportedIn : Phrase → Stage → List Bounds → List ReportedUn
 unfolding heldIn placedBy reported
 reportedIn phrase stage units = zipWith reportedUnit (map (heldBy phrase stage) units) (reported (map (placed phrase stage) units))
 
--- the units of a path that a pass found
+-- the units of a path that a pass found, by "its own stage's boundaries"
 abbrev pub reportedUnits : Phrase → Pass → Path → List ReportedUnit
-reportedUnits phrase pass path = reportedIn phrase (stageOf phrase pass) (unitsOf path)
+reportedUnits phrase pass path = reportedIn phrase (passStage phrase pass) (unitsOf path)

@@ -6,13 +6,12 @@ use lib.ListN.{length}
 use Rattle.phrase.specs.Phrase.{Phrase}
 use Rattle.paths.specs.declared.passes.Strictness.{Strictness}
 use Rattle.paths.specs.Problem.{Problem}
-use Rattle.paths.specs.Passes.{passProblem}
+use Rattle.paths.specs.Passes.{passStage, passProblem}
 use Rattle.record.specs.Meaning.{phraseOf}
 use Rattle.stages.specs.Tables.{Tabled, tablesIn}
 use Rattle.stages.specs.Tables.{StageTables}
 use Rattle.closed.specs.Searched.{Agrees}
 use Rattle.closed.specs.Asked.{columnsOf}
-use Rattle.closed.specs.Answered.{passStage}
 use Rattle.closed.proofs.Staged.{pass-count, pass-readable, pass-cells, pass-agrees}
 use Rattle.closed.proofs.Answers.{says-found, says-none}
 use borrow.Author.Needs.{needs}
