@@ -46,8 +46,8 @@ use Rattle.decode.specs.declared.plan.Plan.{Plan}
 use Rattle.decode.specs.declared.report.Reported.{Reported}
 use Rattle.decode.specs.declared.entry.Scored.{Scored}
 use Rattle.decoding.specs.Report.{lowEdge, highEdge, reportedIn, reportedUnits}
-use Rattle.decoding.specs.EntryOf.{missedTotal, missedUnits, totalOf, unitsFor, entryFor, entryBy, entryOf}
-use Rattle.decode.specs.Places.{Placeable, ReportedAll, missedAt, missedBy, Holds}
+use Rattle.decoding.specs.EntryOf.{missedBy, missedTotal, missedUnits, totalOf, unitsFor, entryFor, entryBy, entryOf}
+use Rattle.decode.specs.Places.{Placeable, ReportedAll, missedAt, Holds}
 use Rattle.decode.specs.Plans.{PlanOf, Worded}
 use Rattle.decode.specs.Scored.{MissedEntry, ScoredAs}
 use Rattle.decoding.proofs.Demands.{answered}

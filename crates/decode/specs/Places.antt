@@ -4,9 +4,7 @@ use mathlib.Core.Bool.{cond}
 use mathlib.Core.List.{List}
 use mathlib.Core.Path.{_≡_}
 use lib.Dec.{ltb}
-use lib.IntN.{pos}
 use lib.ListN.{length, getD, replicate}
-use lib.Ieee.{Float, binary32, mul, ofInt}
 use Rattle.laws.specs.Listed.{padded, listed, tableOf}
 use Rattle.entries.specs.Entry.{ReportedUnit, noRow}
 use Rattle.entries.specs.EntryFrom.{unitAt}
@@ -55,10 +53,6 @@ pub record ReportedAll (words : List ℕ) (units : Units) (k : ℕ) (r : Reporte
 -- "k empty spans": one for each place of an entry
 abbrev pub missedAt : ℕ → Reported
 missedAt at = record { starts = replicate 16 at; ends = replicate 16 at; rows = replicate 16 noRow }
-
--- "f32 k × unvoiced"
-abbrev pub missedBy : ℕ → Float → Float
-missedBy k score = mul binary32 (ofInt binary32 (pos k)) score
 
 -- stands for a unit past the last
 abbrev pub unitless : ReportedUnit

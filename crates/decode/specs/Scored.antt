@@ -9,7 +9,8 @@ use Rattle.ieee.specs.Convert.{clampedLog}
 use Rattle.entries.specs.Entry.{Entry}
 use Rattle.entries.specs.EntryFrom.{entryFrom}
 use Rattle.decode.specs.declared.entry.Scored.{Scored}
-use Rattle.decode.specs.Places.{missedAt, missedBy}
+use Rattle.decoding.specs.EntryOf.{missedBy}
+use Rattle.decode.specs.Places.{missedAt}
 
 -- "No path: k empty spans at speech start", with the score "f32 k × unvoiced, widened, clamped"
 pub record MissedEntry (id k pass : ℕ) (score : Float) (at : ℕ) (r : Scored) : Type 0 where

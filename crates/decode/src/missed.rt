@@ -5,7 +5,8 @@ use clip::clip::NO_ROW;
 use ieee::convert::widen;
 ghost use mathlib.Core.Path.{_≡_};
 ghost use Prim.Native.Nat.{_≤_};
-ghost use Rattle.decode.specs.Places.{missedAt, missedBy};
+ghost use Rattle.decoding.specs.EntryOf.{missedBy};
+ghost use Rattle.decode.specs.Places.{missedAt};
 
 // Empty spans at a frame, as many as an entry has room for.
 pub fn missed_units(at: u32) -> Reported

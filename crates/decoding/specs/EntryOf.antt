@@ -12,8 +12,11 @@ use Rattle.entries.specs.Entry.{ReportedUnit, Entry, noRow}
 use Rattle.decoding.specs.Report.{lowEdge, reportedUnits}
 
 -- "No path: f32 k × unvoiced, widened": an f32 is the same value when it is widened.
+abbrev pub missedBy : ℕ → Float → Float
+missedBy k score = mul binary32 (ofInt binary32 (pos k)) score
+
 abbrev pub missedTotal : Phrase → ℕ → Float
-missedTotal phrase k = mul binary32 (ofInt binary32 (pos k)) (phrase .costs .«unvoiced»)
+missedTotal phrase k = missedBy k (phrase .costs .«unvoiced»)
 
 -- "No path: k empty spans at speech start, or 0 without speech, each with row 4,294,967,295."
 abbrev pub missedUnits : Phrase → ℕ → List ReportedUnit
