@@ -6,8 +6,6 @@ use native.Mathlib.Omega.{arith}
 use lib.Ieee.{Float}
 use lib.ListN.{length, getD}
 use Rattle.laws.proofs.Numbers.{by-order, row-within}
-use Rattle.phrase.specs.Phrase.{Phrase}
-use Rattle.paths.specs.declared.passes.Strictness.{Strictness}
 use Rattle.paths.specs.Problem.{Problem}
 use Rattle.paths.specs.Cell.{empty}
 use Rattle.paths.specs.CellRule.{rows}
@@ -16,23 +14,26 @@ use Rattle.stages.specs.Tables.{StageTables}
 use Rattle.rows.specs.Rows.{HoldsAt, Same}
 use Rattle.rows.proofs.Cells.{same-refl, same-trans, same-holds}
 use Rattle.closed.specs.Filled.{rowAt, FilledFirst, FilledNext, NextRow}
-use Rattle.closed.specs.Searched.{ScoresOf, unitsWith, Agrees}
+use Rattle.closed.specs.Searched.{ScoresOf, unitsWith}
 use Rattle.closed.specs.Reported.{AllRows}
-use Rattle.closed.specs.Asked.{cellsFor, Unused}
+use Rattle.closed.specs.Asked.{Asked, Agrees, cellsFor, Unused}
 
-module _ (phrase : Phrase) (columns : List ℕ) (strictness : Strictness) (t : StageTables) where
+module _ (asked : Asked) where
+  abbrev t : StageTables
+  t = asked .tables
+
   -- rows up to that of s units are filled, the later ones unused, and all beyond as it was
   pub record RowsTo (best₀ : List Float) (back₀ : List ℕ) (best : List Float) (back : List ℕ) (s : ℕ) : Type 0 where
-    pub bounded : s ≤ length columns
+    pub bounded : s ≤ length (asked .columns)
     pub valued : length best ≡ length best₀
     pub marked : length back ≡ length back₀
-    pub filled : (q : Problem) → Agrees phrase columns strictness t q → AllRows q best back (t .size) s
-    pub unused : (at : ℕ) → suc s * t .size ≤ at → at < cellsFor t columns → HoldsAt best back at empty
-    pub rest : (at : ℕ) → cellsFor t columns ≤ at → Same best₀ back₀ best back at
+    pub filled : (q : Problem) → Agrees asked q → AllRows q best back (t .size) s
+    pub unused : (at : ℕ) → suc s * t .size ≤ at → at < cellsFor asked → HoldsAt best back at empty
+    pub rest : (at : ℕ) → cellsFor asked ≤ at → Same best₀ back₀ best back at
 
   pub rows-begin :
-      {best : List Float} {back : List ℕ} {best′ : List Float} {back′ : List ℕ} → Unused best back (cellsFor t columns) →
-      FilledFirst (t .start) (t .gap) best back best′ back′ (t .size) → (q : Problem) → Agrees phrase columns strictness t q →
+      {best : List Float} {back : List ℕ} {best′ : List Float} {back′ : List ℕ} → Unused best back (cellsFor asked) →
+      FilledFirst (t .start) (t .gap) best back best′ back′ (t .size) → (q : Problem) → Agrees asked q →
       RowsTo best′ back′ best′ back′ 0
   rows-begin {best} {back} {best′} {back′} clear first q₀ agrees₀ = record {
     bounded = omega arith;
@@ -54,22 +55,22 @@ module _ (phrase : Phrase) (columns : List ℕ) (strictness : Strictness) (t : S
   -- beyond the cells that are used, what the first row left as it was
   pub first-rest :
       {best : List Float} {back : List ℕ} {best′ : List Float} {back′ : List ℕ} →
-      FilledFirst (t .start) (t .gap) best back best′ back′ (t .size) → (q : Problem) → Agrees phrase columns strictness t q →
-      (at : ℕ) → cellsFor t columns ≤ at → Same best back best′ back′ at
+      FilledFirst (t .start) (t .gap) best back best′ back′ (t .size) → (q : Problem) → Agrees asked q →
+      (at : ℕ) → cellsFor asked ≤ at → Same best back best′ back′ at
   first-rest first q agrees at h = first q (agrees .starts) (agrees .gaps) .rest at (omega arith)
 
-  module _ {best₀ : List Float} {back₀ : List ℕ} {best : List Float} {back : List ℕ} {s : ℕ} (was : RowsTo best₀ back₀ best back s) (more : s < length columns) where
-    pub next-fits : s * t .size + t .size + t .size ≤ cellsFor t columns
+  module _ {best₀ : List Float} {back₀ : List ℕ} {best : List Float} {back : List ℕ} {s : ℕ} (was : RowsTo best₀ back₀ best back s) (more : s < length (asked .columns)) where
+    pub next-fits : s * t .size + t .size + t .size ≤ cellsFor asked
     next-fits = omega (arith, row-within (t .size) more)
 
     module _ {best′ : List Float} {back′ : List ℕ} (b : length best′ ≡ length best) (m : length back′ ≡ length back) (scores : List Float)
-        (given : ScoresOf phrase (t .row) (t .size) (getD columns s 0) scores)
-        (next : FilledNext (unitsWith t scores (phrase .costs .«unvoiced») strictness) (t .gap) best back best′ back′ (t .size) s) where
-      reached : (q : Problem) → Agrees phrase columns strictness t q → NextRow best back best′ back′ (t .size) s (rows q (marks q) (suc s))
+        (given : ScoresOf (asked .phrase) (t .row) (t .size) (getD (asked .columns) s 0) scores)
+        (next : FilledNext (unitsWith t scores (asked .phrase .costs .«unvoiced») (asked .strictness)) (t .gap) best back best′ back′ (t .size) s) where
+      reached : (q : Problem) → Agrees asked q → NextRow best back best′ back′ (t .size) s (rows q (marks q) (suc s))
       unfolding rows
       reached q agrees = next q (agrees .gaps) (agrees .units s more scores given) (rows q (marks q) s) (was .filled q agrees s (omega arith))
 
-      pub rows-more : (q : Problem) → Agrees phrase columns strictness t q → RowsTo best₀ back₀ best′ back′ (s + 1)
+      pub rows-more : (q : Problem) → Agrees asked q → RowsTo best₀ back₀ best′ back′ (s + 1)
       rows-more q₀ agrees₀ = record {
         bounded = omega arith;
         valued = b ∙ was .valued;

@@ -23,7 +23,8 @@ use Rattle.paths.proofs.LookAhead.{holds-none, holds-more, admits-ahead, score-
 use Rattle.stages.specs.Room.{most}
 use Rattle.stages.specs.Tables.{StageTables}
 use Rattle.stages.specs.Tables.{Tabled, beyond}
-use Rattle.closed.specs.Searched.{Agrees, Readable}
+use Rattle.closed.specs.Searched.{Readable}
+use Rattle.closed.specs.Asked.{Agrees}
 
 -- ---- what holds of every anchor of a list
 
@@ -93,7 +94,8 @@ module _ (phrase : Phrase) (stage : Stage) (t : StageTables) (tabled : Tabled ph
   counted : (i : ℕ) → i < t .size → i < length (stage .boundaries)
   counted i h = omega (arith, tabled .sized)
 
-  pub agrees : (strictness : Strictness) (columns : List ℕ) → Agrees phrase columns strictness t (problemOf phrase stage strictness columns)
+  pub agrees : (strictness : Strictness) (columns : List ℕ) →
+      Agrees (record { phrase = phrase; columns = columns; strictness = strictness; tables = t }) (problemOf phrase stage strictness columns)
   unfolding unitValueOf
   agrees strictness columns = record {
     starts = tabled .started;

@@ -1,7 +1,7 @@
 -- What an accepted record gives every pass over the tables of its stage. Assumes nothing.
 use mathlib.Core.Bool.{true}
 use mathlib.Core.List.{List, [], _∷_}
-use mathlib.Core.Path.{_≡_, refl, sym, ap, _∙_}
+use mathlib.Core.Path.{_≡_, refl, sym, ap, subst, subst⁻¹, _∙_}
 use Prim.Native.Nat.{ℕ, suc, _+_, _≤_, _<_}
 use native.Mathlib.Nat.{mul-le-mul-right}
 use native.Mathlib.Omega.{arith}
@@ -10,6 +10,7 @@ use lib.ListN.{length}
 use Rattle.laws.proofs.Listed.{length-listed}
 use Rattle.phrase.specs.Phrase.{Stage}
 use Rattle.phrase.specs.declared.costs.Costs.{Costs}
+use Rattle.paths.specs.declared.passes.Strictness.{Strictness}
 use Rattle.paths.specs.declared.passes.Pass.{Pass}
 use Rattle.paths.specs.declared.passes.Pass.the-variants.{NucleiStrict, CountStrict, CountRelaxed, NucleiRelaxed}
 use Rattle.paths.specs.Frames.{Increasing}
@@ -25,11 +26,10 @@ use Rattle.record.specs.Meaning.{phraseOf, phraseAt}
 use Rattle.record.specs.Conditions.{frameAt}
 use Rattle.record.proofs.Accepted.{fit}
 use Rattle.stages.specs.Room.{most}
-use Rattle.stages.specs.Tables.{StageTables}
-use Rattle.stages.specs.Tables.{Tabled, beyond}
-use Rattle.closed.specs.Searched.{Agrees, Readable, scoreRows}
-use Rattle.closed.specs.Asked.{Candidate, columnsOf, cellsFor, Unused}
-use Rattle.closed.specs.Answered.{passSection}
+use Rattle.stages.specs.Tables.{Tabled, tablesIn, beyond}
+use Rattle.closed.specs.Searched.{scoreRows}
+use Rattle.closed.specs.Asked.{Candidate, columnsOf, askedOf, Agrees, cellsFor, Unused, Ready}
+use Rattle.closed.specs.Answered.{passSection, StageLent}
 use Rattle.closed.proofs.Bridge.{agrees, readable}
 
 -- what the tables of a stage are read by
@@ -77,15 +77,15 @@ pass-count laid CountStrict = added-count laid
 pass-count laid CountRelaxed = added-count laid
 pass-count laid NucleiRelaxed = boundary-count laid
 
-module _ {bytes : List ℕ} {at : Layout} {costs : Costs} {candidate : ℕ} (asked : Candidate bytes at costs candidate) where
+module _ {bytes : List ℕ} {at : Layout} {costs : Costs} {candidate : ℕ} (given : Candidate bytes at costs candidate) where
   stage-fits : (pass : Pass) → Fits (passStage (phraseOf bytes) pass)
-  stage-fits NucleiStrict = fits (omega arith) (fit (asked .laid) .nuclei)
-  stage-fits CountStrict = fits (omega arith) (fit (asked .laid) .added)
-  stage-fits CountRelaxed = fits (omega arith) (fit (asked .laid) .added)
-  stage-fits NucleiRelaxed = fits (omega arith) (fit (asked .laid) .nuclei)
+  stage-fits NucleiStrict = fits (omega arith) (fit (given .laid) .nuclei)
+  stage-fits CountStrict = fits (omega arith) (fit (given .laid) .added)
+  stage-fits CountRelaxed = fits (omega arith) (fit (given .laid) .added)
+  stage-fits NucleiRelaxed = fits (omega arith) (fit (given .laid) .nuclei)
 
   short : length (phraseOf bytes .mask) ≤ beyond
-  short = omega (arith, fit (asked .laid) .fewFrames)
+  short = omega (arith, fit (given .laid) .fewFrames)
 
   rows-within : (pass : Pass) → passStage (phraseOf bytes) pass .firstRow + length (passStage (phraseOf bytes) pass .anchors) ≤ scoreRows (phraseOf bytes)
   rows-within NucleiStrict = omega (arith, nuclei-first bytes)
@@ -99,29 +99,40 @@ module _ {bytes : List ℕ} {at : Layout} {costs : Costs} {candidate : ℕ} (ask
       let phrase = phraseOf bytes in
       omega (arith, some-there (kept phrase (phrase .nuclei)) voiced, keptIn-le (phrase .mask) (phrase .nuclei .firstRow) (phrase .nuclei .anchors))
 
-  module _ {t : StageTables} (pass : Pass) (tabled : Tabled (phraseOf bytes) (passStage (phraseOf bytes) pass) t) where
-    pub pass-readable : hasNucleus (phraseOf bytes) ≡ true → Readable t (scoreRows (phraseOf bytes))
-    pass-readable voiced =
-        let f = stage-fits pass in
-        readable (phraseOf bytes) (passStage (phraseOf bytes) pass) t tabled (f .anchorsUp) (f .boundsUp) (f .few) (f .last) short
-        (scoreRows (phraseOf bytes)) (some-row voiced) (rows-within pass)
+  module _ (pass : Pass) {strictness : Strictness} {n : ℕ} {words : List ℕ} {figures : List Float} (lent : StageLent (phraseOf bytes) (passStage (phraseOf bytes) pass) words figures)
+      (held : strictness ≡ passStrictness pass) (counted : n ≡ passSection at pass .count) where
+    abbrev stage : Stage
+    stage = passStage (phraseOf bytes) pass
 
-    pub pass-cells : (best : List Float) (back : List ℕ) → Unused best back (edition1 .«work_cells») → Unused best back (cellsFor t (columnsOf bytes candidate))
-    pass-cells best back unused = record {
-      values = omega (arith, cells, unused .values);
-      marks = omega (arith, cells, unused .marks);
-      zero = λ j h. unused .zero j (omega (arith, cells));
+    tabled : Tabled (phraseOf bytes) stage (tablesIn n words figures)
+    tabled = subst (λ (m : ℕ). Tabled (phraseOf bytes) stage (tablesIn m words figures)) (pass-count (given .laid) pass ∙ sym counted) (lent .tabled)
+
+    -- the tables are those of the pass's problem
+    pub pass-agrees : Agrees (askedOf bytes candidate strictness n words figures) (passProblem (phraseOf bytes) pass (columnsOf bytes candidate))
+    pass-agrees =
+        let f = stage-fits pass in
+        subst⁻¹ (λ (x : Strictness). Agrees (askedOf bytes candidate x n words figures) (passProblem (phraseOf bytes) pass (columnsOf bytes candidate))) held
+        (agrees (phraseOf bytes) stage (tablesIn n words figures) tabled (f .anchorsUp) (f .boundsUp) (f .few) (f .last) short (passStrictness pass) (columnsOf bytes candidate))
+
+    pub pass-ready :
+        {best : List Float} {back : List ℕ} → hasNucleus (phraseOf bytes) ≡ true → Unused best back (edition1 .«work_cells») →
+        Ready bytes at costs candidate strictness n words figures best back
+    pass-ready voiced unused = record {
+      given = given;
+      lent = lent .whole;
+      readable =
+          let f = stage-fits pass in
+          readable (phraseOf bytes) stage (tablesIn n words figures) tabled (f .anchorsUp) (f .boundsUp) (f .few) (f .last) short (scoreRows (phraseOf bytes)) (some-row voiced) (rows-within pass);
+      some = (passProblem (phraseOf bytes) pass (columnsOf bytes candidate), pass-agrees);
+      unused = record {
+        values = omega (arith, cells, unused .values);
+        marks = omega (arith, cells, unused .marks);
+        zero = λ j h. unused .zero j (omega (arith, cells));
+      };
     }
       where
         few : suc (length (columnsOf bytes candidate)) ≤ 17
-        few = omega (arith, fit (asked .laid) .candidates candidate (record { id = 0; columns = [] }) (asked .listed) .fewUnits)
+        few = omega (arith, fit (given .laid) .candidates candidate (record { id = 0; columns = [] }) (given .listed) .fewUnits)
 
-        cells : cellsFor t (columnsOf bytes candidate) ≤ edition1 .«work_cells»
-        cells = omega (arith, mul-le-mul-right (t .size) few, tabled .sized, stage-fits pass .few)
-
-  pub pass-agrees :
-      {t : StageTables} (pass : Pass) → Tabled (phraseOf bytes) (passStage (phraseOf bytes) pass) t →
-      (columns : List ℕ) → Agrees (phraseOf bytes) columns (passStrictness pass) t (passProblem (phraseOf bytes) pass columns)
-  pass-agrees {t} pass tabled columns =
-      let f = stage-fits pass in
-      agrees (phraseOf bytes) (passStage (phraseOf bytes) pass) t tabled (f .anchorsUp) (f .boundsUp) (f .few) (f .last) short (passStrictness pass) columns
+        cells : cellsFor (askedOf bytes candidate strictness n words figures) ≤ edition1 .«work_cells»
+        cells = omega (arith, mul-le-mul-right n few, tabled .sized, stage-fits pass .few)

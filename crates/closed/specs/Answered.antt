@@ -5,7 +5,7 @@ use mathlib.Core.List.{List, []}
 use mathlib.Core.Path.{_≡_}
 use lib.Ieee.{Float}
 use lib.ListN.{length}
-use Rattle.phrase.specs.Phrase.{Phrase}
+use Rattle.phrase.specs.Phrase.{Phrase, Stage}
 use Rattle.paths.specs.declared.passes.Pass.{Pass}
 use Rattle.paths.specs.CellRule.{chosenPath}
 use Rattle.record.specs.declared.layout.Layout.{Layout}
@@ -55,9 +55,12 @@ pub record RunsOf (phrase : Phrase) (runs : Runs) : Type 0 where
   pub voiced : runs .voiced ≡ hasNucleus phrase
   pub added : runs .added ≡ nonEmpty (phrase .added .anchors)
 
--- The tables of the nuclei's stage and, where there is one, of the added stage, in lent lists.
-pub record BothLent (phrase : Phrase) (words : List ℕ) (figures : List Float) (addedWords : List ℕ) (addedFigures : List Float) : Type 0 where
+-- the tables of a stage, in lent lists
+pub record StageLent (phrase : Phrase) (stage : Stage) (words : List ℕ) (figures : List Float) : Type 0 where
   pub whole : Lent words figures
-  pub addedWhole : Lent addedWords addedFigures
-  pub nuclei : Tabled phrase (phrase .nuclei) (tablesIn (length (phrase .nuclei .boundaries)) words figures)
-  pub added : nonEmpty (phrase .added .anchors) ≡ true → Tabled phrase (phrase .added) (tablesIn (length (phrase .added .boundaries)) addedWords addedFigures)
+  pub tabled : Tabled phrase stage (tablesIn (length (stage .boundaries)) words figures)
+
+-- those of the nuclei's stage and, where there is one, of the added stage
+pub record BothLent (phrase : Phrase) (words : List ℕ) (figures : List Float) (addedWords : List ℕ) (addedFigures : List Float) : Type 0 where
+  pub nuclei : StageLent phrase (phrase .nuclei) words figures
+  pub added : nonEmpty (phrase .added .anchors) ≡ true → StageLent phrase (phrase .added) addedWords addedFigures

@@ -3,7 +3,7 @@ use Prim.Native.Nat.{ℕ, suc, _*_, _≤_, _<_}
 use mathlib.Core.List.{List}
 use mathlib.Core.Path.{_≡_}
 use lib.Ieee.{Float}
-use lib.ListN.{length}
+use lib.ListN.{length, getD}
 use Rattle.phrase.specs.Phrase.{Phrase}
 use Rattle.phrase.specs.declared.costs.Costs.{Costs}
 use Rattle.paths.specs.declared.passes.Strictness.{Strictness}
@@ -12,10 +12,14 @@ use Rattle.record.specs.declared.layout.Layout.{Layout}
 use Rattle.record.specs.Accepted.{Laid}
 use Rattle.record.specs.Meaning.{phraseOf}
 use Rattle.record.specs.Reading.{candidateOf}
-use Rattle.stages.specs.Tables.{StageTables}
-use Rattle.rows.specs.Rows.{Row, Same, first, unfilled}
-use Rattle.closed.specs.Searched.{Agrees}
-use Rattle.closed.specs.Reported.{AllRows}
+use Rattle.stages.specs.Tables.{StageTables, tablesIn}
+use Rattle.rows.specs.Rows.{GapsOf, Row, Same, first, unfilled}
+use Rattle.rows.specs.Units.{UnitsOf}
+use Rattle.rows.specs.Ends.{StopsOf}
+use Rattle.closed.specs.declared.path.Path.{Path}
+use Rattle.closed.specs.Filled.{StartsOf}
+use Rattle.closed.specs.Searched.{ScoresOf, unitsWith, Readable, scoreRows}
+use Rattle.closed.specs.Reported.{AllRows, Reports}
 
 pub record Candidate (bytes : List ℕ) (at : Layout) (costs : Costs) (candidate : ℕ) : Type 0 where
   pub laid : Laid bytes at
@@ -25,9 +29,30 @@ pub record Candidate (bytes : List ℕ) (at : Layout) (costs : Costs) (candidate
 abbrev pub columnsOf : List ℕ → ℕ → List ℕ
 columnsOf bytes candidate = candidateOf (phraseOf bytes) candidate .columns
 
+-- One search: for a path with a unit for each of a candidate's columns, each "as the pass's strictness asks", over the tables of a stage.
+pub record Asked : Type 0 where
+  pub phrase : Phrase
+  pub columns : List ℕ
+  pub strictness : Strictness
+  pub tables : StageTables
+
+-- that for a candidate of a record, over the lent tables of n boundaries
+abbrev pub askedOf : List ℕ → ℕ → Strictness → ℕ → List ℕ → List Float → Asked
+askedOf bytes candidate strictness n words figures =
+    record { phrase = phraseOf bytes; columns = columnsOf bytes candidate; strictness = strictness; tables = tablesIn n words figures }
+
+-- A problem whose figures are those of the tables and, for each of the columns, the phrase's scores.
+pub record Agrees (asked : Asked) (q : Problem) : Type 0 where
+  pub starts : StartsOf q (asked .tables .start) (asked .tables .size)
+  pub gaps : GapsOf q (asked .tables .gap) (asked .tables .size)
+  pub stops : StopsOf q (asked .tables .stop) (asked .tables .size)
+  pub units :
+      (s : ℕ) → s < length (asked .columns) → (scores : List Float) → ScoresOf (asked .phrase) (asked .tables .row) (asked .tables .size) (getD (asked .columns) s 0) scores →
+      UnitsOf q s (unitsWith (asked .tables) scores (asked .phrase .costs .«unvoiced») (asked .strictness)) (asked .tables .size)
+
 -- so many cells of the work areas, for the rows of no units and of each count up to that of the columns
-abbrev pub cellsFor : StageTables → List ℕ → ℕ
-cellsFor t columns = suc (length columns) * t .size
+abbrev pub cellsFor : Asked → ℕ
+cellsFor asked = suc (length (asked .columns)) * asked .tables .size
 
 pub record Unused (best : List Float) (back : List ℕ) (cells : ℕ) : Type 0 where
   pub values : cells ≤ length best
@@ -39,11 +64,19 @@ pub record Lent (words : List ℕ) (figures : List Float) : Type 0 where
   pub worded : length words ≡ 384
   pub figured : length figures ≡ 267
 
--- the tables are those of some problem
-abbrev pub SomeProblem : Phrase → List ℕ → Strictness → StageTables → Type 0
-SomeProblem phrase columns strictness t = (q : Problem) × Agrees phrase columns strictness t q
+-- What it rests on: an accepted record, whole lists whose tables are those of some problem, and unused cells.
+pub record Ready (bytes : List ℕ) (at : Layout) (costs : Costs) (candidate : ℕ) (strictness : Strictness) (n : ℕ) (words : List ℕ) (figures best : List Float) (back : List ℕ) : Type 0 where
+  pub given : Candidate bytes at costs candidate
+  pub lent : Lent words figures
+  pub readable : Readable (tablesIn n words figures) (scoreRows (phraseOf bytes))
+  pub some : (q : Problem) × Agrees (askedOf bytes candidate strictness n words figures) q
+  pub unused : Unused best back (cellsFor (askedOf bytes candidate strictness n words figures))
 
 -- The rows of every count are filled, and all cells beyond them are as they were.
-pub record RowsFilled (phrase : Phrase) (columns : List ℕ) (strictness : Strictness) (t : StageTables) (best : List Float) (back : List ℕ) (best′ : List Float) (back′ : List ℕ) : Type 0 where
-  pub rows : (q : Problem) → Agrees phrase columns strictness t q → AllRows q best′ back′ (t .size) (length columns)
-  pub rest : (at : ℕ) → cellsFor t columns ≤ at → Same best back best′ back′ at
+pub record RowsFilled (asked : Asked) (best : List Float) (back : List ℕ) (best′ : List Float) (back′ : List ℕ) : Type 0 where
+  pub rows : (q : Problem) → Agrees asked q → AllRows q best′ back′ (asked .tables .size) (length (asked .columns))
+  pub rest : (at : ℕ) → cellsFor asked ≤ at → Same best back best′ back′ at
+
+-- "The path chosen, for a pass and a count", in every problem that the tables are those of, or that there is none
+abbrev pub ReportsFor : Asked → Path → Type 0
+ReportsFor asked path = (q : Problem) → Agrees asked q → Reports q (length (asked .columns)) path

@@ -1,5 +1,5 @@
--- The definitions of this layer: the rows of each count, the problem that the tables of a stage give, what a search is asked and
--- what it reports, and the answer of the passes.
+-- The definitions of this layer: the rows of each count, what a search reads, what it reports and what it is asked, and the answer of the
+-- passes.
 pub mod Filled
 pub mod Searched
 pub mod Reported

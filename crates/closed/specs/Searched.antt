@@ -1,4 +1,4 @@
--- The problem that the tables of a stage and a candidate's scores give, as the search reads it.
+-- What the search reads: the scores of a unit, and the tables of a stage.
 use Prim.Native.Nat.{ℕ, _+_, _≤_, _<_}
 use mathlib.Core.List.{List}
 use mathlib.Core.Path.{_≡_}
@@ -6,13 +6,9 @@ use lib.Ieee.{Float, nan}
 use lib.ListN.{length, getD}
 use Rattle.phrase.specs.Phrase.{Phrase}
 use Rattle.paths.specs.declared.passes.Strictness.{Strictness}
-use Rattle.paths.specs.Problem.{Problem}
 use Rattle.stages.specs.Room.{most}
 use Rattle.stages.specs.Tables.{StageTables}
-use Rattle.rows.specs.Rows.{GapsOf}
-use Rattle.rows.specs.Units.{UnitTables, unitTables, UnitsOf}
-use Rattle.rows.specs.Ends.{StopsOf}
-use Rattle.closed.specs.Filled.{StartsOf}
+use Rattle.rows.specs.Units.{UnitTables, unitTables}
 
 -- the scores of a column in the rows listed
 abbrev pub ScoresOf : Phrase → List ℕ → ℕ → ℕ → List Float → Type 0
@@ -33,15 +29,6 @@ pub record Scored (phrase : Phrase) (rows : List ℕ) (n column : ℕ) (before s
 -- the tables of one unit, with its scores
 abbrev pub unitsWith : StageTables → List Float → Float → Strictness → UnitTables
 unitsWith t scores unvoiced strictness = unitTables (t .bounds) (t .first) (t .second) scores (t .duration) unvoiced strictness
-
--- A problem whose figures are those of the tables and, for each of the candidate's columns, the phrase's scores.
-pub record Agrees (phrase : Phrase) (columns : List ℕ) (strictness : Strictness) (t : StageTables) (q : Problem) : Type 0 where
-  pub starts : StartsOf q (t .start) (t .size)
-  pub gaps : GapsOf q (t .gap) (t .size)
-  pub stops : StopsOf q (t .stop) (t .size)
-  pub units :
-      (s : ℕ) → s < length columns → (scores : List Float) → ScoresOf phrase (t .row) (t .size) (getD columns s 0) scores →
-      UnitsOf q s (unitsWith t scores (phrase .costs .«unvoiced») strictness) (t .size)
 
 -- What may be read of the tables: frames ascend, and so do the two anchors ahead; rows are rows of scores.
 pub record Readable (t : StageTables) (scoreRows : ℕ) : Type 0 where

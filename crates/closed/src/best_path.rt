@@ -2,12 +2,7 @@
 
 ghost use mathlib.Core.Path.{_≡_};
 ghost use lib.ListN.{length};
-ghost use Rattle.paths.specs.Problem.{Problem};
-ghost use Rattle.record.specs.Meaning.{phraseOf};
-ghost use Rattle.stages.specs.Tables.{tablesIn};
-ghost use Rattle.closed.specs.Asked.{Candidate, columnsOf, cellsFor, Unused, Lent, SomeProblem, RowsFilled};
-ghost use Rattle.closed.specs.Reported.{Reports};
-ghost use Rattle.closed.specs.Searched.{Agrees, Readable, scoreRows};
+ghost use Rattle.closed.specs.Asked.{columnsOf, askedOf, Ready, RowsFilled, ReportsFor};
 use crate::fill::fill_first;
 use crate::fill::fill_next;
 use crate::path::Path;
@@ -41,11 +36,9 @@ pub fn fill_rows<'a>(
     candidate: usize,
     k: usize,
 )
-    requires { ⌜ Candidate (now bytes) at costs candidate × (k ≡ length (columnsOf (now bytes) candidate)) ⌝ }
-    requires { ⌜ Lent (now words) (now figures) ⌝ }
-    requires { ⌜ Readable (tablesIn n (now words) (now figures)) (scoreRows (phraseOf (now bytes))) × SomeProblem (phraseOf (now bytes)) (columnsOf (now bytes) candidate) strictness (tablesIn n (now words) (now figures)) ⌝ }
-    requires { ⌜ Unused (now best) (now back) (cellsFor (tablesIn n (now words) (now figures)) (columnsOf (now bytes) candidate)) ⌝ }
-    ensures { λ _. ⌜ RowsFilled (phraseOf (now (bytes .entry))) (columnsOf (now (bytes .entry)) candidate) strictness (tablesIn n (now (words .entry)) (now (figures .entry))) (now (best .entry)) (now (back .entry)) (now (best .exit)) (now (back .exit)) ⌝ }
+    requires { ⌜ Ready (now bytes) at costs candidate strictness n (now words) (now figures) (now best) (now back) ⌝ }
+    requires { ⌜ k ≡ length (columnsOf (now bytes) candidate) ⌝ }
+    ensures { λ _. ⌜ RowsFilled (askedOf (now (bytes .entry)) candidate strictness n (now (words .entry)) (now (figures .entry))) (now (best .entry)) (now (back .entry)) (now (best .exit)) (now (back .exit)) ⌝ }
 {
     let unvoiced = costs.unvoiced as f64;
     fill_first(best, back, &figures[..GAP], &figures[GAP..STOP], n);
@@ -83,11 +76,8 @@ pub fn best_path<'a>(
     strictness: Strictness,
     candidate: usize,
 ) -> Path
-    requires { ⌜ Candidate (now bytes) at costs candidate ⌝ }
-    requires { ⌜ Lent (now words) (now figures) ⌝ }
-    requires { ⌜ Readable (tablesIn n (now words) (now figures)) (scoreRows (phraseOf (now bytes))) × SomeProblem (phraseOf (now bytes)) (columnsOf (now bytes) candidate) strictness (tablesIn n (now words) (now figures)) ⌝ }
-    requires { ⌜ Unused (now best) (now back) (cellsFor (tablesIn n (now words) (now figures)) (columnsOf (now bytes) candidate)) ⌝ }
-    ensures { λ r. ⌜ ((q : Problem) → Agrees (phraseOf (now (bytes .entry))) (columnsOf (now (bytes .entry)) candidate) strictness (tablesIn n (now (words .entry)) (now (figures .entry))) q → Reports q (length (columnsOf (now (bytes .entry)) candidate)) r) ⌝ }
+    requires { ⌜ Ready (now bytes) at costs candidate strictness n (now words) (now figures) (now best) (now back) ⌝ }
+    ensures { λ r. ⌜ ReportsFor (askedOf (now (bytes .entry)) candidate strictness n (now (words .entry)) (now (figures .entry))) r ⌝ }
     ensures { λ _. ⌜ (now (best .exit) ≡ now (best .entry)) × (now (back .exit) ≡ now (back .entry)) ⌝ }
 {
     let k = units(bytes, at, candidate);

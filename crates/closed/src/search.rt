@@ -3,15 +3,13 @@
 ghost use mathlib.Core.Bool.{true};
 ghost use mathlib.Core.List.{[]};
 ghost use mathlib.Core.Path.{_≡_};
-ghost use lib.ListN.{length};
 ghost use Rattle.paths.specs.Passes.{passStage, passStrictness, hasNucleus};
 ghost use Rattle.paths.specs.Search.{chosen};
 ghost use Rattle.record.specs.Edition.{edition1};
 ghost use Rattle.record.specs.Meaning.{phraseOf};
-ghost use Rattle.stages.specs.Tables.{Tabled, tablesIn};
 ghost use Rattle.rows.specs.Traced.{UnitsAre};
-ghost use Rattle.closed.specs.Answered.{Says, isFound, numberOf, passSection, passAnswer, RunsOf, BothLent};
-ghost use Rattle.closed.specs.Asked.{Candidate, columnsOf, Unused, Lent};
+ghost use Rattle.closed.specs.Answered.{Says, isFound, numberOf, passSection, passAnswer, RunsOf, StageLent, BothLent};
+ghost use Rattle.closed.specs.Asked.{Candidate, columnsOf, Unused};
 use crate::best_path::best_path;
 use crate::path::Found;
 use paths::passes::Pass;
@@ -104,8 +102,7 @@ pub fn attempt<'a>(
     pass: Pass,
 ) -> Searched
     requires { ⌜ Candidate (now bytes) (task .at) (task .costs) (task .candidate) × (hasNucleus (phraseOf (now bytes)) ≡ true) ⌝ }
-    requires { ⌜ Lent (now words) (now figures) ⌝ }
-    requires { ⌜ Tabled (phraseOf (now bytes)) (passStage (phraseOf (now bytes)) pass) (tablesIn (length (passStage (phraseOf (now bytes)) pass .boundaries)) (now words) (now figures)) ⌝ }
+    requires { ⌜ StageLent (phraseOf (now bytes)) (passStage (phraseOf (now bytes)) pass) (now words) (now figures) ⌝ }
     requires { ⌜ Unused (now best) (now back) (edition1 .«work_cells») ⌝ }
     ensures { λ r. ⌜ Says (passAnswer (phraseOf (now (bytes .entry))) pass (columnsOf (now (bytes .entry)) (task .candidate))) r ⌝ }
     ensures { λ _. ⌜ (now (best .exit) ≡ now (best .entry)) × (now (back .exit) ≡ now (back .entry)) ⌝ }

@@ -9,7 +9,7 @@ use lib.Dec.{eqb}
 use lib.Ieee.{Float}
 use lib.ListN.{length}
 use Rattle.laws.proofs.Listed.{length-listed}
-use Rattle.phrase.specs.Phrase.{Phrase}
+use Rattle.phrase.specs.Phrase.{Phrase, Stage}
 use Rattle.paths.specs.Anchors.{keptIn}
 use Rattle.paths.specs.Passes.{nonEmpty, hasNucleus}
 use Rattle.record.specs.Meaning.{phraseOf}
@@ -18,7 +18,7 @@ use Rattle.record.specs.declared.layout.Layout.{Layout}
 use Rattle.record.specs.declared.read.Which.the-variants.{Count}
 use Rattle.record.proofs.Reading.{anchors-are}
 use Rattle.prepare.proofs.Parts.{nuclei-first}
-use Rattle.closed.specs.Answered.{BothLent}
+use Rattle.closed.specs.Answered.{StageLent, BothLent}
 use Rattle.prepare.specs.Sides.{Prepared}
 use Rattle.decode.specs.declared.plan.Plan.{Plan}
 use Rattle.decode.specs.Plans.{PlanOf, AddedLaid, Lends}
@@ -55,22 +55,21 @@ module _ {bytes : List ℕ} {at : Layout} (h : Laid bytes at) where
 pub lends :
     {phrase : Phrase} {plan : Plan} {words addedWords before : List ℕ} {figures addedFigures earlier : List Float} → PlanOf phrase plan →
     Prepared phrase (phrase .nuclei) (plan .«lo_edge») (plan .«hi_edge») words figures →
-    AddedLaid phrase (plan .«lo_edge») (plan .«hi_edge») before earlier addedWords addedFigures → length addedWords ≡ 384 → length addedFigures ≡ 267 →
-    Lends phrase words figures addedWords addedFigures
-lends {phrase} {words = words} {addedWords = addedWords} {figures = figures} {addedFigures = addedFigures} planned nuclei added long enough = record {
+    AddedLaid phrase (plan .«lo_edge») (plan .«hi_edge») before earlier addedWords addedFigures → Lends phrase words figures addedWords addedFigures
+lends {phrase} {words = words} {addedWords = addedWords} {figures = figures} {addedFigures = addedFigures} planned nuclei added = record {
   nuclei = coe 0 1 (i. Prepared phrase (phrase .nuclei) (planned .low i) (planned .high i) words figures) nuclei;
   added = λ there. coe 0 1 (i. Prepared phrase (phrase .added) (planned .low i) (planned .high i) addedWords addedFigures) (added .there there);
-  addedWorded = long;
-  addedFigured = enough;
 }
 
--- the lists of both stages, as the search is lent them
+-- the lists of a stage, and of both, as the search is lent them
+stage-lent :
+    {phrase : Phrase} {stage : Stage} {lo hi : ℕ} {words : List ℕ} {figures : List Float} → Prepared phrase stage lo hi words figures → StageLent phrase stage words figures
+stage-lent prepared = record {
+  whole = record { worded = prepared .worded; figured = prepared .figured };
+  tabled = prepared .tables .tabled;
+}
+
 pub both-lent :
     {phrase : Phrase} {words addedWords : List ℕ} {figures addedFigures : List Float} →
     Lends phrase words figures addedWords addedFigures → BothLent phrase words figures addedWords addedFigures
-both-lent lent = record {
-  whole = record { worded = lent .nuclei .worded; figured = lent .nuclei .figured };
-  addedWhole = record { worded = lent .addedWorded; figured = lent .addedFigured };
-  nuclei = lent .nuclei .tables .tabled;
-  added = λ there. lent .added there .tables .tabled;
-}
+both-lent lent = record { nuclei = stage-lent (lent .nuclei); added = λ there. stage-lent (lent .added there) }

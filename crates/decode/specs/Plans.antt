@@ -27,8 +27,6 @@ pub record AddedLaid (phrase : Phrase) (lo hi : ℕ) (words : List ℕ) (figures
 pub record Lends (phrase : Phrase) (words : List ℕ) (figures : List Float) (addedWords : List ℕ) (addedFigures : List Float) : Type 0 where
   pub nuclei : Prepared phrase (phrase .nuclei) (lowEdge (phrase .speech)) (highEdge (phrase .speech)) words figures
   pub added : nonEmpty (phrase .added .anchors) ≡ true → Prepared phrase (phrase .added) (lowEdge (phrase .speech)) (highEdge (phrase .speech)) addedWords addedFigures
-  pub addedWorded : length addedWords ≡ 384
-  pub addedFigured : length addedFigures ≡ 267
 
 -- the words alone
 pub record Worded (phrase : Phrase) (words addedWords : List ℕ) : Type 0 where

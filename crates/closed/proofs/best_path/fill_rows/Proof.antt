@@ -1,6 +1,6 @@
 -- `closed::best_path::fill_rows` meets its contract: proofs/AllRows.antt has the rows. Assumes nothing.
 use mathlib.Core.Bool.{not}
-use mathlib.Core.List.{List, []}
+use mathlib.Core.List.{[]}
 use mathlib.Core.Path.{_≡_, refl, sym, ap, subst, subst⁻¹, _∙_}
 use Prim.Native.Nat.{ℕ, _+_, _-_, _<_}
 use native.Mathlib.Nat.{le-refl}
@@ -9,21 +9,17 @@ use lib.Dec.{T}
 use lib.Ieee.{isNan}
 use lib.ListN.{length, getD}
 use borrow.Author.Needs.{needs}
-use Rattle.phrase.specs.Phrase.{Phrase}
 use Rattle.phrase.specs.declared.costs.Costs.{Costs}
-use Rattle.record.specs.Meaning.{phraseOf}
 use Rattle.record.proofs.Accepted.{fit}
 use Rattle.record.proofs.Reading.{within-real}
 use Rattle.stages.specs.Room.{most}
-use Rattle.stages.specs.Tables.{StageTables}
 use Rattle.paths.specs.CellRule.{rows}
 use Rattle.paths.specs.Marks.{marks}
 use Rattle.rows.proofs.Cells.{same-trans}
 use Rattle.closed.specs.Filled.{rowAt, FilledNext}
 use Rattle.closed.specs.Searched.{unitsWith}
 use Rattle.closed.specs.Reported.{AllRows}
-use Rattle.closed.specs.Asked.{columnsOf}
-use Rattle.stages.specs.Tables.{tablesIn}
+use Rattle.closed.specs.Asked.{Asked, askedOf}
 use Rattle.closed.proofs.Lists.{Arrays, whole}
 use Rattle.closed.proofs.AllRows.{RowsTo, rows-begin, first-rest, next-fits, rows-more}
 use Rattle.closed.proofs.best_path.fill_rows.Statement.{statement}
@@ -31,29 +27,23 @@ use Rattle.closed.proofs.best_path.fill_rows.Tie as tie
 
 abbrev Inv-loop : tie.InvT-loop
 Inv-loop best₀ back₀ bytes at words figures n strictness candidate k unvoiced score₀ s₀ best back score s =
-    (length score ≡ most) × RowsTo (phraseOf bytes) (columnsOf bytes candidate) strictness (tablesIn n words figures) best₀ back₀ best back s
+    (length score ≡ most) × RowsTo (askedOf bytes candidate strictness n words figures) best₀ back₀ best back s
 
 abbrev μ-loop : tie.MeasureT-loop
 μ-loop best₀ back₀ bytes at words figures n strictness candidate k unvoiced score₀ s₀ best back score s = k - s
 
-abbrev tables : tie.Start Inv-loop μ-loop → StageTables
-tables c = tablesIn (c .args .n) (c .args .words .now) (c .args .figures .now)
+abbrev asked : tie.Start Inv-loop μ-loop → Asked
+asked c = askedOf (c .args .bytes .now) (c .args .candidate) (c .args .strictness) (c .args .n) (c .args .words .now) (c .args .figures .now)
 
 -- the tables have their lengths
-arrays : (c : tie.Start Inv-loop μ-loop) → Arrays (tables c)
-arrays c = whole (c .pre .1 .0)
-
-abbrev phrase : tie.Start Inv-loop μ-loop → Phrase
-phrase c = phraseOf (c .args .bytes .now)
-
-abbrev columns : tie.Start Inv-loop μ-loop → List ℕ
-columns c = columnsOf (c .args .bytes .now) (c .args .candidate)
+arrays : (c : tie.Start Inv-loop μ-loop) → Arrays (asked c .tables)
+arrays c = whole (c .pre .0 .lent)
 
 float-to-float-unvoiced : tie.Need-float-to-float-unvoiced Inv-loop μ-loop
 float-to-float-unvoiced c =
     let start = c .before .before .before .before .before .before in
     let real : T (not (isNan (start .args .costs .unvoiced))) =
-    subst⁻¹ (λ (x : Costs). T (not (isNan (x .unvoiced)))) (start .pre .0 .0 .figures) (within-real (fit (start .pre .0 .0 .laid) .unvoiced)) in
+    subst⁻¹ (λ (x : Costs). T (not (isNan (x .unvoiced)))) (start .pre .0 .given .figures) (within-real (fit (start .pre .0 .given .laid) .unvoiced)) in
     search needs
 
 slice-aggregate-fill-first : tie.Need-slice-aggregate-fill-first Inv-loop μ-loop
@@ -66,13 +56,13 @@ part-fill-first-start : tie.Need-part-fill-first-start Inv-loop μ-loop
 part-fill-first-start c = search needs
 
 part-fill-first-end : tie.Need-part-fill-first-end Inv-loop μ-loop
-part-fill-first-end c = omega (arith, c .before .before .before .before .before .before .before .before .before .pre .1 .0 .figured)
+part-fill-first-end c = omega (arith, c .before .before .before .before .before .before .before .before .before .pre .0 .lent .figured)
 
 fill-first-requires : tie.Need-fill-first-requires Inv-loop μ-loop
 fill-first-requires c κs =
     let start = c .before .before .before .before .before .before .before .before .before .before in
-    let unused = start .pre .1 .1 .1 in
-    let few = start .pre .1 .1 .0 .0 .few in (
+    let unused = start .pre .0 .unused in
+    let few = start .pre .0 .readable .few in (
       (omega (arith, unused .values), omega (arith, unused .marks), omega (arith, arrays start .start), omega (arith, arrays start .gap)),
       λ j h. unused .zero j (omega arith),
     )
@@ -80,14 +70,14 @@ fill-first-requires c κs =
 loop-holds : tie.Need-loop-holds Inv-loop μ-loop
 loop-holds c =
     let start = c .before .before .before .before .before .before .before .before .before .before .before .before .before .before .before in
-    let some = start .pre .1 .1 .0 .1 in
-    (refl, rows-begin (phrase start) (columns start) (start .args .strictness) (tables start) (start .pre .1 .1 .1) (c .before .before .before .before .fill-first .ensures) (some .0) (some .1))
+    let some = start .pre .0 .some in
+    (refl, rows-begin (asked start) (start .pre .0 .unused) (c .before .before .before .before .fill-first .ensures) (some .0) (some .1))
 
 column-requires : tie.Need-column-requires Inv-loop μ-loop
 column-requires c κs =
     let start = c .before .before .before .before .before .before .before .before .before .before .before .before .before .before .before .before .before in
-    let asked = start .pre .0 .0 in
-    (asked .laid, (asked .listed, omega (arith, c .loop-test .taken, start .pre .0 .1)))
+    let given = start .pre .0 .given in
+    (given .laid, (given .listed, omega (arith, c .loop-test .taken, start .pre .1)))
 
 sub-row-scores : tie.Need-sub-row-scores Inv-loop μ-loop
 sub-row-scores c = search needs
@@ -96,7 +86,7 @@ part-row-scores-start : tie.Need-part-row-scores-start Inv-loop μ-loop
 part-row-scores-start c = search needs
 
 part-row-scores-end : tie.Need-part-row-scores-end Inv-loop μ-loop
-part-row-scores-end c = omega (arith, c .before .before .before .before .before .before .before .before .before .before .before .before .before .before .before .before .before .before .pre .1 .0 .worded)
+part-row-scores-end c = omega (arith, c .before .before .before .before .before .before .before .before .before .before .before .before .before .before .before .before .before .before .pre .0 .lent .worded)
 
 slice-aggregate-row-scores : tie.Need-slice-aggregate-row-scores Inv-loop μ-loop
 slice-aggregate-row-scores c = sym (c .before .before .before .before .loop .inv .0)
@@ -104,13 +94,13 @@ slice-aggregate-row-scores c = sym (c .before .before .before .before .loop .inv
 row-scores-requires : tie.Need-row-scores-requires Inv-loop μ-loop
 row-scores-requires c κs =
     let start = c .before .before .before .before .before .before .before .before .before .before .before .before .before .before .before .before .before .before .before .before in
-    let asked = start .pre .0 .0 in
-    let readable = start .pre .1 .1 .0 .0 in
-    let turn : c .before .before .before .before .loop .s < length (columns start) = omega (arith, c .before .before .before .loop-test .taken, start .pre .0 .1) in (
+    let given = start .pre .0 .given in
+    let readable = start .pre .0 .readable in
+    let turn : c .before .before .before .before .loop .s < length (asked start .columns) = omega (arith, c .before .before .before .loop-test .taken, start .pre .1) in (
       (
-        asked .laid,
+        given .laid,
         subst⁻¹ (λ (x : ℕ). x < start .args .at .scores .count) (c .before .before .column .ensures)
-            (fit (asked .laid) .candidates (start .args .candidate) (record { id = 0; columns = [] }) (asked .listed) .below (c .before .before .before .before .loop .s) turn),
+            (fit (given .laid) .candidates (start .args .candidate) (record { id = 0; columns = [] }) (given .listed) .below (c .before .before .before .before .loop .s) turn),
       ),
       (omega (arith, readable .few, c .before .before .before .before .loop .inv .0), omega (arith, readable .few, arrays start .row), readable .rows),
     )
@@ -125,7 +115,7 @@ part-fill-next-start : tie.Need-part-fill-next-start Inv-loop μ-loop
 part-fill-next-start c = search needs
 
 part-fill-next-end : tie.Need-part-fill-next-end Inv-loop μ-loop
-part-fill-next-end c = omega (arith, c .before .before .before .before .before .before .before .before .before .before .before .before .before .before .before .before .before .before .before .before .before .before .before .before .before .pre .1 .0 .worded)
+part-fill-next-end c = omega (arith, c .before .before .before .before .before .before .before .before .before .before .before .before .before .before .before .before .before .before .before .before .before .before .before .before .before .pre .0 .lent .worded)
 
 sub-fill-next-2 : tie.Need-sub-fill-next-2 Inv-loop μ-loop
 sub-fill-next-2 c = search needs
@@ -134,7 +124,7 @@ part-fill-next-start-2 : tie.Need-part-fill-next-start-2 Inv-loop μ-loop
 part-fill-next-start-2 c = search needs
 
 part-fill-next-end-2 : tie.Need-part-fill-next-end-2 Inv-loop μ-loop
-part-fill-next-end-2 c = omega (arith, c .before .before .before .before .before .before .before .before .before .before .before .before .before .before .before .before .before .before .before .before .before .before .before .before .before .before .pre .1 .0 .worded)
+part-fill-next-end-2 c = omega (arith, c .before .before .before .before .before .before .before .before .before .before .before .before .before .before .before .before .before .before .before .before .before .before .before .before .before .before .pre .0 .lent .worded)
 
 sub-fill-next-3 : tie.Need-sub-fill-next-3 Inv-loop μ-loop
 sub-fill-next-3 c = search needs
@@ -143,7 +133,7 @@ part-fill-next-start-3 : tie.Need-part-fill-next-start-3 Inv-loop μ-loop
 part-fill-next-start-3 c = search needs
 
 part-fill-next-end-3 : tie.Need-part-fill-next-end-3 Inv-loop μ-loop
-part-fill-next-end-3 c = omega (arith, c .before .before .before .before .before .before .before .before .before .before .before .before .before .before .before .before .before .before .before .before .before .before .before .before .before .before .before .pre .1 .0 .figured)
+part-fill-next-end-3 c = omega (arith, c .before .before .before .before .before .before .before .before .before .before .before .before .before .before .before .before .before .before .before .before .before .before .before .before .before .before .before .pre .0 .lent .figured)
 
 slice-aggregate-fill-next-2 : tie.Need-slice-aggregate-fill-next-2 Inv-loop μ-loop
 slice-aggregate-fill-next-2 c = sym (c .before .before .before .before .before .before .before .before .row-scores .kept .1 .1 .1 .1 .1 .0 ∙ c .before .before .before .before .before .before .before .before .before .before .before .before .before .loop .inv .0)
@@ -155,18 +145,18 @@ part-fill-next-start-4 : tie.Need-part-fill-next-start-4 Inv-loop μ-loop
 part-fill-next-start-4 c = search needs
 
 part-fill-next-end-4 : tie.Need-part-fill-next-end-4 Inv-loop μ-loop
-part-fill-next-end-4 c = omega (arith, c .before .before .before .before .before .before .before .before .before .before .before .before .before .before .before .before .before .before .before .before .before .before .before .before .before .before .before .before .before .pre .1 .0 .figured)
+part-fill-next-end-4 c = omega (arith, c .before .before .before .before .before .before .before .before .before .before .before .before .before .before .before .before .before .before .before .before .before .before .before .before .before .before .before .before .before .pre .0 .lent .figured)
 
 fill-next-requires : tie.Need-fill-next-requires Inv-loop μ-loop
 fill-next-requires c κs =
     let start = c .before .before .before .before .before .before .before .before .before .before .before .before .before .before .before .before .before .before .before .before .before .before .before .before .before .before .before .before .before .before in
-    let t = tables start in
-    let readable = start .pre .1 .1 .0 .0 in
-    let some = start .pre .1 .1 .0 .1 in
-    let unused = start .pre .1 .1 .1 in
+    let t = asked start .tables in
+    let readable = start .pre .0 .readable in
+    let some = start .pre .0 .some in
+    let unused = start .pre .0 .unused in
     let at = c .before .before .before .before .before .before .before .before .before .before .before .before .before .before .loop in
-    let turn : at .s < length (columns start) = omega (arith, c .before .before .before .before .before .before .before .before .before .before .before .before .before .loop-test .taken, start .pre .0 .1) in
-    let fits = next-fits (phrase start) (columns start) (start .args .strictness) t (at .inv .1) turn in
+    let turn : at .s < length (asked start .columns) = omega (arith, c .before .before .before .before .before .before .before .before .before .before .before .before .before .loop-test .taken, start .pre .1) in
+    let fits = next-fits (asked start) (at .inv .1) turn in
     let began = c .before .before .before .before .before .before .before .before .before .before .before .before .before .before .before .before .before .before .before .fill-first .kept in (
       (
         omega (arith, fits, unused .values, at .inv .1 .valued, began .0),
@@ -200,17 +190,17 @@ loop-less c = omega (arith, c .before .before .before .before .before .before .b
 loop-again : tie.Need-loop-again Inv-loop μ-loop
 loop-again c =
     let start = c .before .before .before .before .before .before .before .before .before .before .before .before .before .before .before .before .before .before .before .before .before .before .before .before .before .before .before .before .before .before .before .before .before .before .before in
-    let t = tables start in
-    let some = start .pre .1 .1 .0 .1 in
+    let t = asked start .tables in
+    let some = start .pre .0 .some in
     let at = c .before .before .before .before .before .before .before .before .before .before .before .before .before .before .before .before .before .before .before .loop in
-    let turn : at .s < length (columns start) = omega (arith, c .before .before .before .before .before .before .before .before .before .before .before .before .before .before .before .before .before .before .loop-test .taken, start .pre .0 .1) in
+    let turn : at .s < length (asked start .columns) = omega (arith, c .before .before .before .before .before .before .before .before .before .before .before .before .before .before .before .before .before .before .loop-test .taken, start .pre .1) in
     let scored = c .before .before .before .before .before .before .before .before .before .before .before .before .before .before .row-scores in
     let next = c .before .before .before .before .fill-next in (
       scored .kept .1 .1 .1 .1 .1 .0 ∙ at .inv .0,
-      rows-more (phrase start) (columns start) (start .args .strictness) t (at .inv .1) turn (next .kept .0) (next .kept .1 .0) (scored .last .1 .1 .1 .1 .1 .0)
-          (λ i h. scored .ensures .given i h ∙ ap (phrase start .score (getD (t .row) i 0)) (c .before .before .before .before .before .before .before .before .before .before .before .before .before .before .before .before .before .column .ensures))
+      rows-more (asked start) (at .inv .1) turn (next .kept .0) (next .kept .1 .0) (scored .last .1 .1 .1 .1 .1 .0)
+          (λ i h. scored .ensures .given i h ∙ ap (asked start .phrase .score (getD (t .row) i 0)) (c .before .before .before .before .before .before .before .before .before .before .before .before .before .before .before .before .before .column .ensures))
           (subst (λ (x : Costs). FilledNext (unitsWith t (scored .last .1 .1 .1 .1 .1 .0) (x .unvoiced) (start .args .strictness)) (t .gap) (at .best) (at .back) (next .last .0) (next .last .1 .0) (t .size) (at .s))
-          (start .pre .0 .0 .figures) (next .ensures)) (some .0) (some .1),
+          (start .pre .0 .given .figures) (next .ensures)) (some .0) (some .1),
     )
 
 same-length : tie.Need-same-length Inv-loop μ-loop
@@ -222,12 +212,12 @@ same-length-2 c = c .before .loop .inv .1 .marked ∙ c .before .before .before 
 returns : tie.Need-returns Inv-loop μ-loop
 returns c =
     let start = c .before .before .before .before .before .before .before .before .before .before .before .before .before .before .before .before .before in
-    let some = start .pre .1 .1 .0 .1 in
+    let some = start .pre .0 .some in
     let inv = c .before .loop .inv in
-    let all : c .before .loop .s ≡ length (columns start) = omega (arith, c .loop-test .left, start .pre .0 .1, inv .1 .bounded) in
+    let all : c .before .loop .s ≡ length (asked start .columns) = omega (arith, c .loop-test .left, start .pre .1, inv .1 .bounded) in
     record {
       rows = λ q agrees. subst (AllRows q (c .before .loop .best) (c .before .loop .back) (start .args .n)) all (inv .1 .filled q agrees);
-      rest = λ at h. same-trans (first-rest (phrase start) (columns start) (start .args .strictness) (tables start) (c .before .before .before .before .before .before .fill-first .ensures) (some .0) (some .1) at h) (inv .1 .rest at h);
+      rest = λ at h. same-trans (first-rest (asked start) (c .before .before .before .before .before .before .fill-first .ensures) (some .0) (some .1) at h) (inv .1 .rest at h);
     }
 
 pub fill-rows-spec : {M : Type 1} → statement M

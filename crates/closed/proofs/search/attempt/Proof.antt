@@ -1,18 +1,13 @@
 -- `closed::search::attempt` meets its contract. Assumes nothing.
 use mathlib.Core.List.{List}
-use mathlib.Core.Path.{sym, subst, subst⁻¹, _∙_}
 use Prim.Native.Nat.{ℕ}
 use lib.ListN.{length}
 use Rattle.phrase.specs.Phrase.{Phrase}
-use Rattle.paths.specs.declared.passes.Strictness.{Strictness}
 use Rattle.paths.specs.Problem.{Problem}
-use Rattle.paths.specs.Passes.{passStage, passProblem}
+use Rattle.paths.specs.Passes.{passProblem}
 use Rattle.record.specs.Meaning.{phraseOf}
-use Rattle.stages.specs.Tables.{Tabled, tablesIn}
-use Rattle.stages.specs.Tables.{StageTables}
-use Rattle.closed.specs.Searched.{Agrees}
-use Rattle.closed.specs.Asked.{columnsOf}
-use Rattle.closed.proofs.Staged.{pass-count, pass-readable, pass-cells, pass-agrees}
+use Rattle.closed.specs.Asked.{columnsOf, Asked, askedOf, Agrees}
+use Rattle.closed.proofs.Staged.{pass-agrees, pass-ready}
 use Rattle.closed.proofs.Answers.{says-found, says-none}
 use borrow.Author.Needs.{needs}
 use Rattle.closed.proofs.search.attempt.Statement.{statement}
@@ -28,22 +23,15 @@ columns c = columnsOf (c .args .bytes .now) (c .args .task .candidate)
 abbrev problem : tie.Start → Problem
 problem c = passProblem (phrase c) (c .args .pass) (columns c)
 
--- its tables
-abbrev tables : (c : tie.After-boundary-count) → StageTables
-tables c = let a = c .before .before .before .before .before .before .before .before .args in tablesIn (c .boundary-count .result) (a .words .now) (a .figures .now)
+abbrev asked : tie.After-boundary-count → Asked
+asked c =
+    let a = c .before .before .before .before .before .before .before .before .args in
+    askedOf (a .bytes .now) (a .task .candidate) (c .before .before .strictness-of .result) (c .boundary-count .result) (a .words .now) (a .figures .now)
 
-tabled : (c : tie.After-boundary-count) → Tabled (phrase (c .before .before .before .before .before .before .before .before)) (passStage (phrase (c .before .before .before .before .before .before .before .before)) (c .before .before .before .before .before .before .before .before .args .pass)) (tables c)
-tabled c =
-    let start = c .before .before .before .before .before .before .before .before in
-    let a = start .args in
-    subst (λ (n : ℕ). Tabled (phrase start) (passStage (phrase start) (a .pass)) (tablesIn n (a .words .now) (a .figures .now)))
-    (pass-count (start .pre .0 .0 .laid) (a .pass) ∙ sym (c .boundary-count .ensures)) (start .pre .1 .1 .0)
-
-agreed : (c : tie.After-boundary-count) → Agrees (phrase (c .before .before .before .before .before .before .before .before)) (columns (c .before .before .before .before .before .before .before .before)) (c .before .before .strictness-of .result) (tables c) (problem (c .before .before .before .before .before .before .before .before))
+agreed : (c : tie.After-boundary-count) → Agrees (asked c) (problem (c .before .before .before .before .before .before .before .before))
 agreed c =
     let start = c .before .before .before .before .before .before .before .before in
-    subst⁻¹ (λ (x : Strictness). Agrees (phrase start) (columns start) x (tables c) (problem start)) (c .before .before .strictness-of .ensures)
-    (pass-agrees (start .pre .0 .0) (start .args .pass) (tabled c) (columns start))
+    pass-agrees (start .pre .0 .0) (start .args .pass) (start .pre .1 .0) (c .before .before .strictness-of .ensures) (c .boundary-count .ensures)
 
 strictness-of-requires : tie.Need-strictness-of-requires
 strictness-of-requires c κs = search needs
@@ -54,18 +42,7 @@ boundary-count-requires c κs = search needs
 best-path-requires : tie.Need-best-path-requires
 best-path-requires c κs =
     let start = c .before .before .before .before .before .before .before .before .before .before .before in
-    let a = start .args in
-    let asked = start .pre .0 .0 in
-    let is = tabled (c .before .before .before) in (
-      asked,
-      (
-        start .pre .1 .0,
-        (
-          (pass-readable asked (a .pass) is (start .pre .0 .1), (problem start, agreed (c .before .before .before))),
-          pass-cells asked (a .pass) is (a .best .now) (a .back .now) (start .pre .1 .1 .1),
-        ),
-      ),
-    )
+    pass-ready (start .pre .0 .0) (start .args .pass) (start .pre .1 .0) (c .before .before .before .before .before .strictness-of .ensures) (c .before .before .before .boundary-count .ensures) (start .pre .0 .1) (start .pre .1 .1)
 
 enum-known-found : tie.Need-enum-known-found
 enum-known-found c = search needs

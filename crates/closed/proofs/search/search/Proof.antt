@@ -65,7 +65,7 @@ returns-2 c =
 attempt-requires : tie.Need-attempt-requires
 attempt-requires c κs =
     let start = c .before .before .before .before .before .before .before .before .before .before .before .before .before in
-    ((start .pre .0 .0, voiced (c .before .before .before .before)), (start .pre .1 .0 .whole, (start .pre .1 .0 .nuclei, start .pre .1 .1)))
+    ((start .pre .0 .0, voiced (c .before .before .before .before)), (start .pre .1 .0 .nuclei, start .pre .1 .1))
 
 is-found-requires : tie.Need-is-found-requires
 is-found-requires c κs = search needs
@@ -88,7 +88,7 @@ attempt-requires-2 : tie.Need-attempt-requires-2
 attempt-requires-2 c κs =
     let start = c .before .before .before .before .before .before .before .before .before .before .before .before .before .before .before .before .before .before .before .before .before .before .before .before in
     let first = c .before .before .before .before .before .before .before .before .before .before .attempt .ensures .1 in
-    ((start .pre .0 .0, voiced (c .before .before .before .before .before .before .before .before .before .before .before .before .before .before .before)), (start .pre .1 .0 .whole, (start .pre .1 .0 .nuclei, still (first .0) (first .1) (start .pre .1 .1))))
+    ((start .pre .0 .0, voiced (c .before .before .before .before .before .before .before .before .before .before .before .before .before .before .before)), (start .pre .1 .0 .nuclei, still (first .0) (first .1) (start .pre .1 .1)))
 
 same-length-3 : tie.Need-same-length-3
 same-length-3 c = search needs
@@ -110,7 +110,7 @@ attempt-requires-3 : tie.Need-attempt-requires-3
 attempt-requires-3 c κs =
     let start = c .before .before .before .before .before .before .before .before .before .before .before .before .before .before .before .before .before .before .before .before .before .before .before .before in
     let first = c .before .before .before .before .before .before .before .before .before .before .attempt .ensures .1 in
-    ((start .pre .0 .0, voiced (c .before .before .before .before .before .before .before .before .before .before .before .before .before .before .before)), (start .pre .1 .0 .addedWhole, (start .pre .1 .0 .added (added (c .before .before)), still (first .0) (first .1) (start .pre .1 .1))))
+    ((start .pre .0 .0, voiced (c .before .before .before .before .before .before .before .before .before .before .before .before .before .before .before)), (start .pre .1 .0 .added (added (c .before .before)), still (first .0) (first .1) (start .pre .1 .1)))
 
 is-found-requires-2 : tie.Need-is-found-requires-2
 is-found-requires-2 c κs = search needs
@@ -137,7 +137,7 @@ attempt-requires-4 c κs =
     let first = c .before .before .before .before .before .before .before .before .before .before .before .before .before .before .before .before .before .before .before .attempt .ensures .1 in
     let second = c .before .before .before .before .before .before .before .before .attempt3 .ensures .1 in (
       (start .pre .0 .0, voiced (c .before .before .before .before .before .before .before .before .before .before .before .before .before .before .before .before .before .before .before .before .before .before .before .before)),
-      (start .pre .1 .0 .addedWhole, (start .pre .1 .0 .added (added (c .before .before .before .before .before .before .before .before .before .before .before)), still (second .0 ∙ first .0) (second .1 ∙ first .1) (start .pre .1 .1))),
+      (start .pre .1 .0 .added (added (c .before .before .before .before .before .before .before .before .before .before .before)), still (second .0 ∙ first .0) (second .1 ∙ first .1) (start .pre .1 .1)),
     )
 
 same-length-7 : tie.Need-same-length-7

@@ -80,7 +80,7 @@ put-candidates-requires c κs =
       (
         c .before .before .before .before .before .before .before .before .before .before .before .before .before .before .before .before .before .plan-of .ensures,
         (
-          lends (c .before .before .before .before .before .before .before .before .before .before .before .before .before .before .before .before .before .plan-of .ensures) (c .before .before .before .before .before .before .before .before .before .before .before .before .before .before .lay-stage .ensures) (added .ensures) (search needs) (search needs),
+          lends (c .before .before .before .before .before .before .before .before .before .before .before .before .before .before .before .before .before .plan-of .ensures) (c .before .before .before .before .before .before .before .before .before .before .before .before .before .before .lay-stage .ensures) (added .ensures),
           (unused-cleared (a .best .now) (a .back .now) (edition1 .«work_cells») (cleared .0) (cleared .1) (ok .values) (ok .marks), ok .words),
         ),
       ),
