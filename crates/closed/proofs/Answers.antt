@@ -9,7 +9,7 @@ use Rattle.paths.specs.Problem.{Problem}
 use Rattle.paths.specs.Path.{Path as Route, sum}
 use Rattle.paths.specs.Cell.{Cell, empty, held, carry}
 use Rattle.paths.specs.CellRule.{chosenPath}
-use Rattle.paths.specs.Demand.{found, none, unvoiced, answerNumber, Answer as Demanded}
+use Rattle.paths.specs.Demand.{none, Answer as Demanded}
 use Rattle.paths.specs.Search.{orElse}
 use Rattle.rows.specs.Traced.{UnitsAre}
 use Rattle.closed.specs.declared.path.Found.the-variants.{Sum, NoPath}
@@ -18,7 +18,7 @@ use Rattle.closed.specs.declared.search.Answer.the-variants.{None}
 use Rattle.closed.specs.declared.search.Answer.the-variants.{Found as FoundIn}
 use Rattle.closed.specs.declared.search.Searched.{Searched}
 use Rattle.closed.specs.Reported.{sumFound, unitsIn, Reports}
-use Rattle.closed.specs.Answered.{Says, numberOf, isFound}
+use Rattle.closed.specs.Answered.{Says, isFound}
 
 same-held : {a b : Float} → held a ≡ held b → a ≡ b
 same-held e = cc
@@ -58,9 +58,3 @@ pub leaves-later :
     orElse pass q c later ≡ later
 leaves-later pass q empty later r says e = refl
 leaves-later pass q (held route) later r says e = absurd (let z : _≡_ {A = ℕ} 0 1 = cc (ap isFound (says .0)) in omega arith)
-
--- the pass word of a result entry is document 01's for the answer
-pub says-number : (answer : Demanded) (r : Searched) → Says answer r → numberOf (r .answer) ≡ answerNumber answer
-says-number (found pass path total) r says = ap numberOf (says .0)
-says-number none r says = ap numberOf (says .0)
-says-number unvoiced r says = ap numberOf (says .0)

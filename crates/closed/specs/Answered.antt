@@ -12,7 +12,7 @@ use Rattle.record.specs.declared.layout.Layout.{Layout}
 use Rattle.record.specs.declared.layout.Section.{Section}
 use Rattle.paths.specs.Marks.{unitsOf}
 use Rattle.paths.specs.Passes.{passNumber, ofPass, passProblem, speaks, hasNucleus, nonEmpty}
-use Rattle.paths.specs.Demand.{found, none, unvoiced, Answer as Demanded}
+use Rattle.paths.specs.Demand.{found, none, unvoiced, answerNumber, Answer as Demanded}
 use Rattle.paths.specs.Search.{orElse}
 use Rattle.stages.specs.Tables.{Tabled, tablesIn}
 use Rattle.rows.specs.Traced.{UnitsAre}
@@ -22,12 +22,11 @@ use Rattle.closed.specs.declared.search.Answer.the-variants.{Found, None
 use Rattle.closed.specs.declared.search.Searched.{Searched}
 use Rattle.closed.specs.declared.search.Runs.{Runs}
 
--- "Pass: 0 nuclei-strict, 1 count-strict, 2 count-relaxed, 3 nuclei-relaxed, 4 none (no path, but a nucleus in the mask),
--- 5 unvoiced (no path and no nucleus in the mask)."
-abbrev pub numberOf : Answer → ℕ
-numberOf (Found pass total) = passNumber pass
-numberOf None = 4
-numberOf Unvoiced = 5
+-- the number of a result entry's pass word, as for the answer that it says: "Pass: 0 nuclei-strict, [..] 5 unvoiced"
+abbrev pub passWord : Answer → ℕ
+passWord (Found pass total) = passNumber pass
+passWord None = answerNumber none
+passWord Unvoiced = answerNumber unvoiced
 
 -- The code's answer and units say what an answer says: its pass and sum, and the units of its path, or no path by the same word.
 abbrev pub Says : Demanded → Searched → Type 0

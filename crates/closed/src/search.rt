@@ -8,7 +8,7 @@ ghost use Rattle.paths.specs.Search.{chosen};
 ghost use Rattle.record.specs.Edition.{edition1};
 ghost use Rattle.record.specs.Meaning.{phraseOf};
 ghost use Rattle.rows.specs.Traced.{UnitsAre};
-ghost use Rattle.closed.specs.Answered.{Says, isFound, numberOf, passSection, passAnswer, RunsOf, StageLent, BothLent};
+ghost use Rattle.closed.specs.Answered.{Says, isFound, passWord, passSection, passAnswer, RunsOf, StageLent, BothLent};
 ghost use Rattle.closed.specs.Asked.{Candidate, columnsOf, Unused};
 use crate::best_path::best_path;
 use crate::path::Found;
@@ -41,7 +41,7 @@ pub struct Runs {
 impl Answer {
     // The number of a result entry's pass word.
     pub fn number(self) -> u32
-        ensures { λ r. ⌜ r ≡ numberOf self ⌝ }
+        ensures { λ r. ⌜ r ≡ passWord self ⌝ }
     {
         match self {
             Answer::Found(pass, _) => pass.number(),

@@ -26,7 +26,7 @@ use Rattle.rows.specs.declared.trace.Units.{Units}
 use Rattle.rows.specs.Traced.{UnitsAre}
 use Rattle.closed.specs.declared.search.Answer.the-variants.{Found, None, Unvoiced}
 use Rattle.closed.specs.declared.search.Searched.{Searched}
-use Rattle.closed.specs.Answered.{Says, numberOf}
+use Rattle.closed.specs.Answered.{Says, passWord}
 use Rattle.closed.specs.Asked.{columnsOf}
 use Rattle.closed.proofs.Bridge.{readable}
 use Rattle.record.specs.Edition.{edition1}
@@ -144,7 +144,7 @@ module _ {bytes : List ℕ} {at : Layout} (h : Laid bytes at) where
         can-place s counted = coe 1 0 (i. Placeable (s i) (searched .units) ((counted ∙ sym units-few) i)) (Reporting.placeable path-found)
 
         module _ {own : List ℕ} {k id number : ℕ} {llr : Float} {units : Reported}
-            (s : own ≡ ofPass words addedWords pass) (counted : k ≡ length columns) (named : id ≡ chosenOne .id) (numbered : number ≡ numberOf (searched .answer))
+            (s : own ≡ ofPass words addedWords pass) (counted : k ≡ length columns) (named : id ≡ chosenOne .id) (numbered : number ≡ passWord (searched .answer))
             (clamped : ClampedLog total llr) (all : ReportedAll own (searched .units) k units) where
           holds : Holds (reportedIn phrase (passStage phrase pass) (unitsOf (it .path))) units
           holds =
@@ -162,7 +162,7 @@ module _ {bytes : List ℕ} {at : Layout} (h : Laid bytes at) where
           scored-found =
               coe 1 0 (i. ScoredAs (entryFor phrase chosenOne (it .is i)) (record { head = record { id = id; llr = llr; pass = number; units = k }; units = units }))
               (record {
-                whole = λ i. record { id = named i; pass = (numbered ∙ ap numberOf e) i; total = total; llr = clamped .value i; units = units-are i };
+                whole = λ i. record { id = named i; pass = (numbered ∙ ap passWord e) i; total = total; llr = clamped .value i; units = units-are i };
                 number = finite-number _ (clamped .within .real .isFinite);
                 few = omega (arith, few-units);
                 starts = holds .startsLong;
@@ -205,12 +205,12 @@ module _ {bytes : List ℕ} {at : Layout} (h : Laid bytes at) where
           head : r .head ≡ record { id = chosenOne .id; llr = clampedLog (totalOf phrase n a); pass = answerNumber a; units = n }
           head = missed .head ∙ (λ i. record { id = named i; llr = llr i; pass = numbered i; units = counted i })
 
-      pub scored-none : searched .answer ≡ None → {k id number : ℕ} {r : Scored} → k ≡ length columns → id ≡ chosenOne .id → number ≡ numberOf (searched .answer)
+      pub scored-none : searched .answer ≡ None → {k id number : ℕ} {r : Scored} → k ≡ length columns → id ≡ chosenOne .id → number ≡ passWord (searched .answer)
           → MissedEntry id k number (plan .costs .unvoiced) (plan .«lo_edge») r → ScoredAs (entryOf phrase chosenOne) r
       scored-none e counted named numbered missed =
-          scored-missed D.none (says-none (chosen phrase columns) searched says e) refl refl counted named (numbered ∙ ap numberOf e) missed
+          scored-missed D.none (says-none (chosen phrase columns) searched says e) refl refl counted named (numbered ∙ ap passWord e) missed
 
-      pub scored-unvoiced : searched .answer ≡ Unvoiced → {k id number : ℕ} {r : Scored} → k ≡ length columns → id ≡ chosenOne .id → number ≡ numberOf (searched .answer)
+      pub scored-unvoiced : searched .answer ≡ Unvoiced → {k id number : ℕ} {r : Scored} → k ≡ length columns → id ≡ chosenOne .id → number ≡ passWord (searched .answer)
           → MissedEntry id k number (plan .costs .unvoiced) (plan .«lo_edge») r → ScoredAs (entryOf phrase chosenOne) r
       scored-unvoiced e counted named numbered missed =
-          scored-missed D.unvoiced (says-unvoiced (chosen phrase columns) searched says e) refl refl counted named (numbered ∙ ap numberOf e) missed
+          scored-missed D.unvoiced (says-unvoiced (chosen phrase columns) searched says e) refl refl counted named (numbered ∙ ap passWord e) missed

@@ -4,7 +4,6 @@ use mathlib.Core.Bool.{true, false}
 use mathlib.Core.List.{List}
 use mathlib.Core.Path.{_≡_}
 use lib.Ieee.{Float}
-use lib.ListN.{length}
 use Rattle.phrase.specs.Phrase.{Phrase}
 use Rattle.paths.specs.Passes.{nonEmpty}
 use Rattle.closed.specs.Answered.{RunsOf}

@@ -4,7 +4,7 @@ use mathlib.Core.Path.{_≡_, ap, subst, subst⁻¹, _∙_}
 use Prim.Native.Nat.{ℕ, suc, _+_, _*_}
 use native.Mathlib.Omega.{arith}
 use lib.Ieee.{binary64, nan, ofBits}
-use lib.ListN.{length, drop, replicate}
+use lib.ListN.{drop, replicate}
 use Rattle.record.proofs.Accepted.{fit}
 use Rattle.closed.specs.Reported.{AllRows, Reports}
 use Rattle.closed.specs.Asked.{askedOf, cellsFor}
