@@ -8,17 +8,14 @@ use Rattle.phrase.specs.Phrase.{Phrase}
 use Rattle.paths.specs.declared.passes.Pass.{Pass}
 use Rattle.paths.specs.declared.passes.Pass.the-variants.{NucleiStrict, CountStrict, CountRelaxed, NucleiRelaxed}
 use Rattle.paths.specs.Passes.{nonEmpty, inOrder}
-use Rattle.paths.specs.Demand.{FirstOf, here, after, Each, all-done, each-of}
+use Rattle.paths.specs.Demand.{FirstOf, Each, all-done, each-of}
+use Rattle.paths.proofs.Answers.{first-each}
 
 abbrev pub ofAdded : Pass → Bool
 ofAdded NucleiStrict = false
 ofAdded CountStrict = true
 ofAdded CountRelaxed = true
 ofAdded NucleiRelaxed = false
-
-first-each : {P : Pass → Type 0} {phrase : Phrase} {columns : List ℕ} {pass : Pass} {order : List Pass} → Each P order → FirstOf phrase columns pass order → P pass
-first-each (each-of p others) (here admits) = p
-first-each (each-of p others) (after none first) = first-each others first
 
 each-tried : (exists : Bool) → Each (λ pass. T (ofAdded pass) → exists ≡ true) (NucleiStrict ∷ cond exists (CountStrict ∷ CountRelaxed ∷ []) (NucleiRelaxed ∷ []))
 each-tried true = each-of (λ t. refl) (each-of (λ t. refl) (each-of (λ t. refl) all-done))

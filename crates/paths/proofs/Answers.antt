@@ -27,7 +27,7 @@ each-map : {P Q : Pass → Type 0} {order : List Pass} → ((pass : Pass) → P 
 each-map f all-done = all-done
 each-map f (each-of {pass = pass} p others) = each-of (f pass p) (each-map f others)
 
-first-each : {P : Pass → Type 0} {phrase : Phrase} {columns : List ℕ} {pass : Pass} {order : List Pass} → Each P order → FirstOf phrase columns pass order → P pass
+pub first-each : {P : Pass → Type 0} {phrase : Phrase} {columns : List ℕ} {pass : Pass} {order : List Pass} → Each P order → FirstOf phrase columns pass order → P pass
 first-each (each-of p others) (here a) = p
 first-each (each-of p others) (after missing first) = first-each others first
 
