@@ -1,4 +1,9 @@
-"""Writes the records of this crate's stdin, and with LISTING=PROGRAM what that program prints for each accepted one, to stdout."""
+"""Writes the files stdin, which holds the records, and stdout: the refusals, and what the program LISTING prints for each other record.
+
+The stored stdout has the original's listings, by `listing` of oracle/ (oracle/src/bin/listing.rs). From this folder, where that is built:
+
+    LISTING=../../oracle/target/release/listing python3 make_records.py
+"""
 import os
 import random
 import struct

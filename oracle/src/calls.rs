@@ -8,32 +8,17 @@ use crate::wanted;
 /// half first), or the number of the refusal.
 pub type Answer = Result<(u32, Vec<u32>), i32>;
 
+/// A call with its arguments, in the order of the C interface.
 #[derive(Clone, Debug)]
 pub enum Call {
-    Rate {
-        frames: Vec<u32>,
-        default_s: f64,
-    },
-    Spans {
-        nuclei: Vec<u32>,
-        bounds: Vec<u32>,
-        lo_edge: u32,
-        hi_edge: u32,
-        room: usize,
-    },
-    Joins {
-        voice: Vec<u8>,
-        pitched: Vec<u8>,
-        start: u32,
-        end: u32,
-    },
-    Tail {
-        start: u32,
-        end: u32,
-        next: Option<u32>,
-        pitched: Vec<u8>,
-        vowel_speech: Vec<u8>,
-    },
+    /// frames, default
+    Rate(Vec<u32>, f64),
+    /// nuclei, boundaries, both edges, words of the output
+    Spans(Vec<u32>, Vec<u32>, u32, u32, usize),
+    /// voice mask, pitch mask, start, end
+    Joins(Vec<u8>, Vec<u8>, u32, u32),
+    /// start, end, next nucleus, pitch mask, mask of vowel speech
+    Tail(u32, u32, Option<u32>, Vec<u8>, Vec<u8>),
 }
 
 impl Call {
@@ -48,111 +33,72 @@ impl Call {
 
     pub fn wanted(&self) -> Answer {
         match self {
-            Call::Rate { frames, default_s } => wanted::rate_s(frames, *default_s).map(rate_answer),
-            Call::Spans {
-                nuclei,
-                bounds,
-                lo_edge,
-                hi_edge,
-                room,
-            } => wanted::tbu_spans(nuclei, bounds, *lo_edge, *hi_edge, *room).map(spans_answer),
-            Call::Joins {
-                voice,
-                pitched,
-                start,
-                end,
-            } => wanted::joins(voice, pitched, *start, *end).map(joins_answer),
-            Call::Tail {
-                start,
-                end,
-                next,
-                pitched,
-                vowel_speech,
-            } => wanted::creaky_tail(*start, *end, *next, pitched, vowel_speech).map(tail_answer),
+            Call::Rate(frames, default_s) => wanted::rate_s(frames, *default_s).map(rate_answer),
+            Call::Spans(nuclei, bounds, lo, hi, room) => {
+                wanted::tbu_spans(nuclei, bounds, *lo, *hi, *room).map(spans_answer)
+            }
+            Call::Joins(voice, pitched, start, end) => {
+                wanted::joins(voice, pitched, *start, *end).map(joins_answer)
+            }
+            Call::Tail(start, end, next, pitched, vowel_speech) => {
+                wanted::creaky_tail(*start, *end, *next, pitched, vowel_speech).map(tail_answer)
+            }
         }
     }
 
     /// Our answer, through the C interface.
     pub fn ours(&self) -> Answer {
         match self {
-            Call::Rate { frames, default_s } => {
+            Call::Rate(frames, default_s) => {
                 ours::rate_s(frames, *default_s).map(|rate| rate_answer(rate.to_bits()))
             }
-            Call::Spans {
-                nuclei,
-                bounds,
-                lo_edge,
-                hi_edge,
-                room,
-            } => ours::tbu_spans(nuclei, bounds, *lo_edge, *hi_edge, *room).map(spans_answer),
-            Call::Joins {
-                voice,
-                pitched,
-                start,
-                end,
-            } => ours::joins(voice, pitched, *start, *end).map(joins_answer),
-            Call::Tail {
-                start,
-                end,
-                next,
-                pitched,
-                vowel_speech,
-            } => ours::creaky_tail(*start, *end, *next, pitched, vowel_speech).map(tail_answer),
+            Call::Spans(nuclei, bounds, lo, hi, room) => {
+                ours::tbu_spans(nuclei, bounds, *lo, *hi, *room).map(spans_answer)
+            }
+            Call::Joins(voice, pitched, start, end) => {
+                ours::joins(voice, pitched, *start, *end).map(joins_answer)
+            }
+            Call::Tail(start, end, next, pitched, vowel_speech) => {
+                ours::creaky_tail(*start, *end, *next, pitched, vowel_speech).map(tail_answer)
+            }
         }
     }
 }
 
 fn rate(r: &mut Random) -> Call {
-    Call::Rate {
-        frames: frames(r),
-        default_s: r.pick(&[
-            0.2,
-            0.0,
-            -0.0,
-            1.0e6,
-            -1.0e6,
-            1_000_000.5,
-            f64::NAN,
-            f64::INFINITY,
-        ]),
-    }
+    let frames = frames(r);
+    let defaults = [
+        0.2,
+        0.0,
+        -0.0,
+        1.0e6,
+        -1.0e6,
+        1_000_000.5,
+        f64::NAN,
+        f64::INFINITY,
+    ];
+    Call::Rate(frames, r.pick(&defaults))
 }
 
 fn spans(r: &mut Random) -> Call {
     let (nuclei, bounds) = (frames(r), frames(r));
-    let (lo_edge, hi_edge) = (frame(r), frame(r));
-    let words =
-        wanted::tbu_spans(&nuclei, &bounds, lo_edge, hi_edge, usize::MAX).map_or(0, |w| w.len());
-    Call::Spans {
-        nuclei,
-        bounds,
-        lo_edge,
-        hi_edge,
-        room: (words + r.below(4)).saturating_sub(1),
-    }
+    let (lo, hi) = (frame(r), frame(r));
+    let words = wanted::tbu_spans(&nuclei, &bounds, lo, hi, usize::MAX).map_or(0, |w| w.len());
+    let room = (words + r.below(4)).saturating_sub(1);
+    Call::Spans(nuclei, bounds, lo, hi, room)
 }
 
 fn joins(r: &mut Random) -> Call {
     let (voice, pitched) = (mask(r), mask(r));
     let (start, end) = edges(r, voice.len());
-    Call::Joins {
-        voice,
-        pitched,
-        start,
-        end,
-    }
+    Call::Joins(voice, pitched, start, end)
 }
 
 fn tail(r: &mut Random) -> Call {
     let (pitched, vowel_speech) = (mask(r), mask(r));
     let (start, end) = edges(r, pitched.len());
-    Call::Tail {
-        start,
-        end,
-        next: (!r.once_in(3)).then(|| end.saturating_add(r.below(12) as u32)),
-        pitched,
-        vowel_speech,
-    }
+    let next = (!r.once_in(3)).then(|| end.saturating_add(r.below(12) as u32));
+    Call::Tail(start, end, next, pitched, vowel_speech)
 }
 
 fn frame(r: &mut Random) -> u32 {

@@ -48,38 +48,21 @@ impl Sample {
     /// Another entry: the lengths of what is lent, the figures, and the lists or masks. The second mask goes on to the case's end.
     pub fn call(&mut self, call: &Call, answer: &Answer) {
         match call {
-            Call::Rate { frames, default_s } => {
+            Call::Rate(frames, default_s) => {
                 let bits = default_s.to_bits();
                 let head = [frames.len() as u32, bits as u32, (bits >> 32) as u32];
                 self.case(2, [words(&head), words(frames)].concat(), answer);
             }
-            Call::Spans {
-                nuclei,
-                bounds,
-                lo_edge,
-                hi_edge,
-                room,
-            } => {
+            Call::Spans(nuclei, bounds, lo, hi, room) => {
                 let [n, b, w] = [nuclei.len(), bounds.len(), *room].map(|n| n as u32);
-                let head = words(&[n, b, w, *lo_edge, *hi_edge]);
+                let head = words(&[n, b, w, *lo, *hi]);
                 self.case(3, [head, words(nuclei), words(bounds)].concat(), answer);
             }
-            Call::Joins {
-                voice,
-                pitched,
-                start,
-                end,
-            } => {
+            Call::Joins(voice, pitched, start, end) => {
                 let head = words(&[voice.len() as u32, *start, *end]);
                 self.case(4, [&head[..], voice, pitched].concat(), answer);
             }
-            Call::Tail {
-                start,
-                end,
-                next,
-                pitched,
-                vowel_speech,
-            } => {
+            Call::Tail(start, end, next, pitched, vowel_speech) => {
                 let next = next.unwrap_or(u32::MAX);
                 let head = words(&[pitched.len() as u32, *start, *end, next]);
                 self.case(5, [&head[..], pitched, vowel_speech].concat(), answer);

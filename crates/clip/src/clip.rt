@@ -1,5 +1,6 @@
 // Units with an anchor keep their row's span; one without is clipped to what its neighbours leave. specs/Clip.antt is the rule.
 
+use frames::list::larger;
 use frames::span::Span;
 ghost use mathlib.Core.Path.{_≡_};
 ghost use mathlib.Core.List.{List};
@@ -10,13 +11,6 @@ ghost use Rattle.clip.specs.Units.{unitsFrom, unitsOf, reportAt, Alike, 
 
 // Stands for the row of a unit without an anchor.
 pub const NO_ROW: u32 = 4294967295;
-
-// The larger of two frames.
-fn larger(a: u32, b: u32) -> u32
-    ensures { λ r. ⌜ r ≡ max a b ⌝ }
-{
-    if a < b { b } else { a }
-}
 
 // The nearest frame from `low` to `high`, which is not below `low`.
 fn nearest(low: u32, high: u32, frame: u32) -> u32

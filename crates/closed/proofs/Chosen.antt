@@ -11,6 +11,7 @@ use Rattle.paths.specs.Path.{Path as Route, begin, gap, unit, end as endOf, sum
 use Rattle.paths.specs.Cell.{Cell, empty, held, keep, best as bestOf, carry}
 use Rattle.paths.specs.CellRule.{rows, paths, chosenPath}
 use Rattle.paths.specs.Marks.{Marked, marks, markAt, End as Ended, ended, unitsOf, Traces}
+use Rattle.paths.proofs.Cells.{held-same}
 use Rattle.paths.proofs.Marks.{Kept, kept-begin, kept-gap, kept-unit, rows-kept, end-chosen, marks-trace}
 use Rattle.rows.specs.declared.end.End.{End}
 use Rattle.rows.specs.declared.end.End.the-variants.{At, Nowhere}
@@ -52,9 +53,6 @@ source {A} less (suc m) ways a e = go (λ was. source less m ways a was) (bestOf
     go before empty was d is e = last (is ∙ e)
     go before (held x) was empty is e = earlier (before (was ∙ e))
     go before (held x) was (held y) is e = pick before (less x y) x y was is e
-
-held-same : {A : Type 0} {a b : A} → held a ≡ held b → a ≡ b
-held-same e = cc
 
 -- a path that the rows hold ends at its boundary
 kept-ends : {q : Problem} (p : Route) {s j : ℕ} → Kept q s j p → endOf p ≡ j

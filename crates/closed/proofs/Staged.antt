@@ -25,6 +25,7 @@ use Rattle.record.specs.Layout.{layoutOf}
 use Rattle.record.specs.Meaning.{phraseOf, phraseAt}
 use Rattle.record.specs.Conditions.{frameAt}
 use Rattle.record.proofs.Accepted.{fit}
+use Rattle.record.proofs.Reading.{nuclei-first, added-next}
 use Rattle.stages.specs.Room.{most}
 use Rattle.stages.specs.Tables.{Tabled, tablesIn, beyond}
 use Rattle.closed.specs.Searched.{scoreRows}
@@ -50,15 +51,6 @@ fits h s = record {
 some-there : {A : Type 0} (l : List A) → nonEmpty l ≡ true → 0 < length l
 some-there [] e = absurd (let z : _≡_ {A = ℕ} 0 1 = cc in omega arith)
 some-there (x ∷ l) e = omega arith
-
--- "Rows are nuclei, then anchors."
-nuclei-first : (bytes : List ℕ) → phraseOf bytes .nuclei .firstRow ≡ 0
-unfolding phraseOf phraseAt
-nuclei-first bytes = refl
-
-added-next : (bytes : List ℕ) → phraseOf bytes .added .firstRow ≡ length (phraseOf bytes .nuclei .anchors)
-unfolding phraseOf phraseAt
-added-next bytes = sym (length-listed (frameAt bytes (layoutOf bytes .nuclei)) (layoutOf bytes .nuclei .count))
 
 -- The layout has the number of boundaries of each stage.
 boundary-count : {bytes : List ℕ} {at : Layout} → Laid bytes at → length (phraseOf bytes .nuclei .boundaries) ≡ at .boundaries .count

@@ -1,13 +1,14 @@
 -- The units that the look-ahead tables place are the ones to report.
 use Prim.Native.Nat.{ℕ, _-_, _≤_, _<_}
-use mathlib.Core.Bool.{Bool, true, false, not, cond}
+use mathlib.Core.Bool.{Bool, true, cond}
 use mathlib.Core.List.{List, [], _∷_}
 use mathlib.Core.Path.{_≡_, refl, sym, ap, subst, _∙_}
 use native.Mathlib.Omega.{arith}
 use borrow.Author.Tests.{lt-ltb, le-ltb, ne-eqb}
-use lib.Dec.{T, ltb, eqb, ltb→lt, nltb→le, leb→le, eqb→eq}
+use lib.Dec.{T, ltb, eqb, leb→le, eqb→eq}
 use lib.ListN.{length}
 use lib.Ieee.Fits.{and-r}
+use Rattle.laws.proofs.Numbers.{by-order}
 use Rattle.phrase.specs.Phrase.{Phrase, Stage}
 use Rattle.paths.specs.declared.passes.Strictness.{Strictness}
 use Rattle.paths.specs.declared.passes.Strictness.the-variants.{Strict, Relaxed}
@@ -58,26 +59,22 @@ module _ (phrase : Phrase) (stage : Stage) (up : Increasing (stage .anchors)) (l
     unfolding admitsUnit
     few = held-few strictness _ (and-r (fitsUnit (to - from)) _ (ok .admitted))
 
+    rising : Rising 0 (kept phrase stage)
+    rising = kept-rising (phrase .mask) (stage .firstRow) (stage .anchors) up
+
     no-second : to ≤ secondAhead beyond (kept phrase stage) from
-    no-second = go (ltb (secondAhead beyond (kept phrase stage) from) to) (ltb→lt _ to) (nltb→le _ to)
-      where
-        go : (b : Bool) → (T b → secondAhead beyond (kept phrase stage) from < to) → (T (not b) → to ≤ secondAhead beyond (kept phrase stage) from)
-            → to ≤ secondAhead beyond (kept phrase stage) from
-        go true less more =
-            absurd (omega (arith, few, holds-more (kept-rising (phrase .mask) (stage .firstRow) (stage .anchors) up) beyond from to (last _ (ok .inside)) (less tt)))
-        go false less more = more tt
+    no-second =
+        by-order (secondAhead beyond (kept phrase stage) from) to
+        (λ less. absurd (omega (arith, few, holds-more rising beyond from to (last _ (ok .inside)) less)))
+        (λ more. more)
 
     -- what holds of no anchor where the first ahead is not before the end, and else of that one, holds of the anchors held
     pub held-either : (P : List Anchor → Type 0) → (to ≤ ahead → P []) → (ahead < to → P (record { frame = ahead; row = rowAhead 0 (kept phrase stage) from } ∷ []))
         → P (heldBy phrase stage unit)
-    held-either P none one = go (ltb ahead to) (ltb→lt ahead to) (nltb→le ahead to)
-      where
-        rising : Rising 0 (kept phrase stage)
-        rising = kept-rising (phrase .mask) (stage .firstRow) (stage .anchors) up
-
-        go : (b : Bool) → (T b → ahead < to) → (T (not b) → to ≤ ahead) → P (heldBy phrase stage unit)
-        go true less more = subst P (sym (holds-one rising beyond from to (last _ (ok .inside)) 0 (less tt) no-second)) (one (less tt))
-        go false less more = subst P (sym (holds-none rising beyond from to (last _ (ok .inside)) (more tt))) (none (more tt))
+    held-either P none one =
+        by-order ahead to
+        (λ less. subst P (sym (holds-one rising beyond from to (last _ (ok .inside)) 0 less no-second)) (one less))
+        (λ more. subst P (sym (holds-none rising beyond from to (last _ (ok .inside)) more)) (none more))
 
     pub placed-by-tables :
         let span = spanAhead stage (lowEdge (phrase .speech)) (highEdge (phrase .speech)) ahead in

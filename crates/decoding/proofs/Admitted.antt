@@ -1,12 +1,12 @@
 -- Each unit of an admitted path is admitted.
-use Prim.Native.Nat.{ℕ, _≤_, _<_}
-use mathlib.Core.Bool.{Bool, true, false, not}
+use Prim.Native.Nat.{ℕ, _<_}
 use mathlib.Core.List.{List, [], _∷_, _++_}
 use mathlib.Core.Path.{_≡_, sym, ap, subst, _∙_}
 use native.Mathlib.Omega.{arith}
-use lib.Dec.{T, ltb, ltb→lt, nltb→le}
+use lib.Dec.{T}
 use lib.ListN.{length, getD, List·getD-append, length-append}
 use lib.Seq.{getD-append-seam}
+use Rattle.laws.proofs.Numbers.{by-order}
 use Rattle.phrase.specs.Phrase.{Phrase, Stage}
 use Rattle.paths.specs.declared.passes.Strictness.{Strictness}
 use Rattle.paths.specs.Anchors.{kept}
@@ -29,15 +29,11 @@ module _ (phrase : Phrase) (stage : Stage) (strictness : Strictness) (columns : 
       → (i : ℕ) → i < length us → UnitOk phrase stage strictness (getD us i noBounds)
   each-ok no-units i h = absurd (omega arith)
   each-ok (later-end o l) i h = each-ok o i h
-  each-ok (one-more {us = us} {i = a} {j = b} o less below ok) i h = go (ltb i (length us)) (ltb→lt i (length us)) (nltb→le i (length us)) (λ before. each-ok o i before)
-    where
-      unit : Bounds
-      unit = record { first = a; last = b }
-
-      go : (earlier : Bool) → (T earlier → i < length us) → (T (not earlier) → length us ≤ i)
-          → (i < length us → UnitOk phrase stage strictness (getD us i noBounds)) → UnitOk phrase stage strictness (getD (us ++ (unit ∷ [])) i noBounds)
-      go true inside outside known = subst (UnitOk phrase stage strictness) (sym (List·getD-append us (unit ∷ []) noBounds i (inside tt))) (known (inside tt))
-      go false inside outside known =
-          let e : i ≡ length us = omega (arith, outside tt, length-append us (unit ∷ [])) in
-          subst (UnitOk phrase stage strictness) (sym (ap (λ (n : ℕ). getD (us ++ (unit ∷ [])) n noBounds) e ∙ getD-append-seam us unit [] noBounds))
-          (record { forward = less; inside = below; admitted = ok })
+  each-ok (one-more {us = us} {i = a} {j = b} o less below ok) i h =
+      let unit : Bounds = record { first = a; last = b } in
+      by-order i (length us)
+      (λ earlier. subst (UnitOk phrase stage strictness) (sym (List·getD-append us (unit ∷ []) noBounds i earlier)) (each-ok o i earlier))
+      (λ later.
+      let e : i ≡ length us = omega (arith, length-append us (unit ∷ [])) in
+      subst (UnitOk phrase stage strictness) (sym (ap (λ (n : ℕ). getD (us ++ (unit ∷ [])) n noBounds) e ∙ getD-append-seam us unit [] noBounds))
+      (record { forward = less; inside = below; admitted = ok }))

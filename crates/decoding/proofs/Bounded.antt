@@ -2,12 +2,11 @@
 use Prim.Native.Nat.{ℕ, zero, suc, _+_, _≤_, _<_}
 use mathlib.Core.List.{List, [], _∷_}
 use mathlib.Core.Option.{none}
-use mathlib.Core.Path.{_≡_, refl, sym}
+use mathlib.Core.Path.{_≡_, refl}
 use native.Mathlib.Omega.{arith}
 use lib.Dec.{T}
 use lib.ListN.{length, getD}
 use lib.Ieee.{binary64}
-use Rattle.laws.proofs.Listed.{length-listed}
 use Rattle.ieee.specs.Value.{Within}
 use Rattle.ieee.proofs.Magnitude.{within-widens}
 use Rattle.phrase.specs.Phrase.{Stage, Candidate}
@@ -17,9 +16,10 @@ use Rattle.paths.specs.Bounded.{Bounded, PhraseBounded, documentRanges}
 use Rattle.record.specs.Edition.{edition1}
 use Rattle.record.specs.Layout.{layoutOf}
 use Rattle.record.specs.Refusals.{refusalOf}
-use Rattle.record.specs.Meaning.{phraseAt, phraseOf}
+use Rattle.record.specs.Meaning.{phraseOf}
 use Rattle.record.specs.Accepted.{CandidateFit, Fit}
 use Rattle.record.proofs.Accepted.{fit}
+use Rattle.record.proofs.Reading.{nuclei-first, added-next}
 
 some-anchor : (frames : List ℕ) → T (nonEmpty frames) → 0 < length frames
 some-anchor (frame ∷ frames) t = omega arith
@@ -32,15 +32,6 @@ column-below {columns = columns} c any fits unit = go (c .columns) (fits .below)
     go [] below j = any
     go (x ∷ xs) below zero = below zero (omega arith)
     go (x ∷ xs) below (suc j) = go xs (λ i h. below (suc i) (omega arith)) j
-
--- "Rows are nuclei, then anchors."
-nuclei-first : (bytes : List ℕ) → phraseOf bytes .nuclei .firstRow ≡ 0
-unfolding phraseOf phraseAt
-nuclei-first bytes = refl
-
-added-next : (bytes : List ℕ) → phraseOf bytes .added .firstRow ≡ length (phraseOf bytes .nuclei .anchors)
-unfolding phraseOf phraseAt
-added-next bytes = sym (length-listed _ (layoutOf bytes .nuclei .count))
 
 module _ (bytes : List ℕ) (accepted : refusalOf bytes ≡ none) where
   -- an accepted record's phrase fits

@@ -7,7 +7,7 @@ use mathlib.Core.Path.{_≡_, refl, ap, _∙_}
 use lib.ListN.{length, replicate, drop}
 use lib.IntN.{pos, negsuc}
 use lib.Count.{trailingZeros}
-use lib.Ieee.{Float, fin, binary32, binary64, toBits, add, sub, mul, neg, ofInt, lt, round, ofBits, ofFields, isNan}
+use lib.Ieee.{Float, fin, binary32, binary64, toBits, add, sub, mul, neg, ofInt, lt, ofBits, ofFields, isNan}
 use Rattle.laws.specs.Listed.{listed}
 use Rattle.ieee.specs.Convert.{clamped, narrowed, clampedLog}
 use Rattle.ieee.specs.TotalOrder.{totalBefore}
@@ -23,6 +23,8 @@ use Rattle.frames.specs.Outcome.{accepted}
 use Rattle.frames.specs.Frames.{highestBelow, lowestFrom}
 use Rattle.spans.specs.Spans.{spansOf}
 use Rattle.rate.specs.Rate.{rate}
+use Rattle.ieee.proofs.ConvertExamples as convert-examples
+use Rattle.paths.proofs.PhraseExamples as phrase-examples
 use Rattle.spans.proofs.Examples as span-examples
 use Rattle.rate.proofs.Examples as rate-examples
 use Rattle.frames.specs.declared.span.Span.{Span}
@@ -99,8 +101,7 @@ abbrev anchor : Anchor
 anchor = record { frame = 0; row = 0 }
 
 pub unit-frames : map (admitsUnit Strict (anchor ∷ []) 0) (5 ∷ 6 ∷ 80 ∷ 81 ∷ []) ≡ false ∷ true ∷ true ∷ false ∷ []
-unfolding admitsUnit
-unit-frames = refl
+unit-frames = phrase-examples.unit-lengths
 
 -- ---- "frames 10, 30, 60 give rate 0.25; equal frames give the default"
 
@@ -129,8 +130,7 @@ clip-first = clip.at-first
 -- ---- "1000000.5 narrows to 49742400": 1,000,000.5 = 2,000,001 / 2
 
 pub narrows : toBits binary32 (clampedLog (fin false 2000001 (negsuc 0))) ≡ 0x49742400
-unfolding clampedLog clamped narrowed isNan lt round toBits
-narrows = refl
+narrows = convert-examples.clamped-to-a-million
 
 -- ---- "boundaries 0, 6, 12, all values zero, relaxed, one unit: 0..6"
 

@@ -18,15 +18,15 @@ unfolding ofInt
 lower-bound = refl
 
 -- 1,000,000.5 = 2,000,001 / 2
-just-over-a-million : Float
+abbrev pub just-over-a-million : Float
 just-over-a-million = fin false 2000001 (negsuc 0)
 
-clamped-to-a-million : toBits binary32 (clampedLog just-over-a-million) ≡ 0x49742400
-unfolding just-over-a-million clampedLog clamped narrowed isNan lt round toBits
+pub clamped-to-a-million : toBits binary32 (clampedLog just-over-a-million) ≡ 0x49742400
+unfolding clampedLog clamped narrowed isNan lt round toBits
 clamped-to-a-million = refl
 
 narrowed-alone : toBits binary32 (narrowed just-over-a-million) ≡ 0x49742408
-unfolding just-over-a-million narrowed round toBits
+unfolding narrowed round toBits
 narrowed-alone = refl
 
 -- ---- the f32 pattern that an f64 pattern narrows to

@@ -18,4 +18,4 @@ pub mod NarrowClamp
 mod TotalOrderMagnitude
 pub mod TotalOrder
 mod RangeExamples
-mod ConvertExamples
+pub mod ConvertExamples

@@ -16,7 +16,7 @@ pub data Every {A : Type 0} (P : A → Type 0) : Cell A → Type 0 where
 pub data Some {A : Type 0} (P : A → Type 0) : Cell A → Type 0 where
   some-held : {a : A} → P a → Some P (held a)
 
-held-same : {A : Type 0} {a b : A} → held a ≡ held b → a ≡ b
+pub held-same : {A : Type 0} {a b : A} → held a ≡ held b → a ≡ b
 held-same e = cc
 
 not-both : {A : Type 0} {c : Cell A} {a : A} → c ≡ empty → c ≡ held a → ⊥

@@ -36,15 +36,16 @@ unfolding speechIn
 speechIn-le mask from to =
     le-trans (speechFrom-le mask (min from (length mask)) (min to (length mask) - min from (length mask))) (omega arith)
 
-pub speechIn-split : (mask : List ℕ) (from mid to : ℕ) → from ≤ mid → mid ≤ to → speechIn mask from to ≡ speechIn mask from mid + speechIn mask mid to
+-- in order as far as the mask goes
+pub speechIn-split : (mask : List ℕ) (from mid to : ℕ)
+    → min from (length mask) ≤ min mid (length mask) → min mid (length mask) ≤ min to (length mask)
+    → speechIn mask from to ≡ speechIn mask from mid + speechIn mask mid to
 unfolding speechIn
 speechIn-split mask from mid to h k =
-    let a = min from (length mask) in
-    let b = min mid (length mask) in
-    let c = min to (length mask) in
-    let ab : a ≤ b = omega arith in
-    let bc : b ≤ c = omega arith in
+    let a : ℕ = min from (length mask) in
+    let b : ℕ = min mid (length mask) in
+    let c : ℕ = min to (length mask) in
     let step : c - a ≡ (b - a) + (c - b) = omega arith in
-    let at : a + (b - a) ≡ b = add-sub-of-le ab in
+    let at : a + (b - a) ≡ b = add-sub-of-le h in
     ap (speechFrom mask a) step ∙ speechFrom-split mask a (b - a) (c - b)
     ∙ ap (λ (x : ℕ). speechFrom mask a (b - a) + speechFrom mask x (c - b)) at

@@ -78,11 +78,11 @@ sample-9 = refl
 
 -- ---- units
 
-abbrev anchorAt : ℕ → Anchor
+abbrev pub anchorAt : ℕ → Anchor
 anchorAt frame = record { frame = frame; row = 0 }
 
 -- of 5 (barred), 6, 80, 81 (barred) frames
-unit-lengths : map (admitsUnit Strict (anchorAt 0 ∷ []) 0) (5 ∷ 6 ∷ 80 ∷ 81 ∷ []) ≡ false ∷ true ∷ true ∷ false ∷ []
+pub unit-lengths : map (admitsUnit Strict (anchorAt 0 ∷ []) 0) (5 ∷ 6 ∷ 80 ∷ 81 ∷ []) ≡ false ∷ true ∷ true ∷ false ∷ []
 unfolding admitsUnit
 unit-lengths = refl
 

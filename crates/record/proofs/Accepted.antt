@@ -19,7 +19,7 @@ use Rattle.record.specs.Edition.{edition1}
 use Rattle.record.specs.Bounds.{Sized, Counted}
 use Rattle.record.specs.Layout.{trailerOf, layoutFrom, layoutOf}
 use Rattle.record.specs.Conditions.{noFrame, badList, badMask, badEdges, badTrack, speechStart, speechEnd, thousand, million, firstTable, secondTable, f32At, f64At, badScores, badTable, badCost, idAt, unitsAt, columnAt}
-use Rattle.record.specs.Refusals.{refusalOf}
+use Rattle.record.specs.Refusals.{ownRules, refusalOf}
 use Rattle.record.specs.Meaning.{maskAt, framesAt, durationAt, candidateAt, phraseAt, phraseOf}
 use Rattle.record.specs.Accepted.{Laid, StageFit, CandidateFit, Fit}
 use Rattle.record.specs.declared.limits.Limits.{Limits}
@@ -28,6 +28,7 @@ use Rattle.record.specs.declared.layout.Layout.{Layout}
 use Rattle.record.proofs.Sizes.{sized}
 use Rattle.record.proofs.Below.{none-below}
 use Rattle.record.proofs.Entries.{units-some, units-most}
+use Rattle.record.proofs.RuleLists.{none-fails}
 use Rattle.record.proofs.Passed.{Passed, none-holds}
 use Rattle.record.proofs.Fits.{frames-fit, score-fits, cost-fits, table-fits, edges-fit}
 
@@ -160,7 +161,7 @@ module _ (l : Limits) (bytes : List ℕ) (p : Passed l bytes) where
 
 pub laid-passed : {bytes : List ℕ} {at : Layout} → Laid bytes at → Passed edition1 bytes
 unfolding refusalOf
-laid-passed {bytes} h = none-holds edition1 bytes (h .accepted)
+laid-passed {bytes} h = none-holds edition1 bytes (none-fails bytes (ownRules edition1 bytes) (h .accepted))
 
 -- the counts of an accepted record are within their limits
 pub counts : {bytes : List ℕ} {at : Layout} → Laid bytes at → Counted edition1 at

@@ -14,33 +14,16 @@ use Rattle.record.specs.Edition.{edition1}
 use Rattle.record.specs.Layout.{trailerStart, trailerOf, layoutOf}
 use Rattle.record.specs.Conditions.{stub, otherEdition, oversized, overreaching, badTrack, badCost, bare, repeated, badUnits, badColumn, shortDesk}
 use Rattle.record.specs.Refusals.{Rule, rule, numberOf, firstOf, firstRules, candidateRules, ownRules, refusalWith}
-use Rattle.record.specs.declared.limits.Limits.{Limits}
 use Rattle.record.specs.declared.refusal.Refusal.{Refusal}
 use Rattle.record.specs.declared.refusal.Refusal.the-variants.{Stub, Edition, Size, Reach, Track, Cost, Bare, Twice, Units, Column, Desk}
 use Rattle.record.proofs.Below.{any-found}
-use Rattle.record.proofs.Passed.{CandidatePassed}
-use Rattle.record.proofs.RuleLists.{Each, no-rule, each-of, Fails, FirstHolds, by-first, is-some, none-fails, fails-none, given-exactly}
+use Rattle.record.proofs.Passed.{CandidatePassed, Passed, none-holds}
+use Rattle.record.proofs.RuleLists.{Each, no-rule, each-of, each-split, Fails, FirstHolds, by-first, is-some, none-fails, fails-none, given-exactly}
 
 all-fail : (p : ℕ → Bool) (n : ℕ) → ((i : ℕ) → i < n → p i ≡ false) → anyBelow p n ≡ false
 unfolding anyBelow
 all-fail p zero each = refl
 all-fail p (suc n) each = rw (all-fail p n (λ i below. each i (omega arith)), each n (omega arith)) refl
-
--- where no rule of the candidates holds, none holds of one of them, and none after theirs
-candidate-fails : (l : Limits) (bytes : List ℕ) (i n : ℕ) (rest : List Rule) → Each (Fails bytes) (candidateRules l i n ++ rest)
-    → (k : ℕ) → i ≤ k → k < i + n → CandidatePassed l bytes k
-unfolding candidateRules
-candidate-fails l bytes i zero rest fs k from to = let nowhere : ⊥ = omega arith in absurd nowhere
-candidate-fails l bytes i (suc n) rest (each-of twice (each-of units (each-of column more))) k from to =
-    ⊎-elim
-    (λ (h : i ≡ k). subst (CandidatePassed l bytes) h (record { twice = twice .not-held; units = units .not-held; column = column .not-held }))
-    (λ (h : i < k). candidate-fails l bytes (suc i) n rest more k h (omega arith))
-    (eq-or-lt-of-le from)
-
-rest-fails : (l : Limits) (bytes : List ℕ) (i n : ℕ) (rest : List Rule) → Each (Fails bytes) (candidateRules l i n ++ rest) → Each (Fails bytes) rest
-unfolding candidateRules
-rest-fails l bytes i zero rest fs = fs
-rest-fails l bytes i (suc n) rest (each-of twice (each-of units (each-of column more))) = rest-fails l bytes (suc i) n rest more
 
 module _ (bytes : List ℕ) (best back out : ℕ) where
   -- The condition of each number, for a record and the lengths of the buffers lent; 8, 9 and 10 hold where they hold of a candidate.
@@ -120,34 +103,31 @@ module _ (bytes : List ℕ) (best back out : ℕ) where
       by-value true h e = absurd (true≢false (sym (h refl) ∙ e))
       by-value false h e = refl
 
-  module _ (fs : Each (Fails bytes) (candidateRules edition1 0 (layoutOf bytes .candidates .count) ++ desk)) where
-    of-candidate : (i : ℕ) → i < layoutOf bytes .candidates .count → CandidatePassed edition1 bytes i
-    of-candidate i below = candidate-fails edition1 bytes 0 (layoutOf bytes .candidates .count) desk fs i zero-le (omega arith)
+  each-false : Passed edition1 bytes → conditionOf Desk ≡ false → (q : Refusal) → conditionOf q ≡ false
+  each-false p e Stub = p .stub
+  each-false p e Edition = p .edition
+  each-false p e Size = p .size
+  each-false p e Reach = p .reach
+  each-false p e Track = p .track
+  each-false p e Cost = p .cost
+  each-false p e Bare = p .bare
+  each-false p e Twice = all-fail _ _ (λ i below. p .candidate i below .twice)
+  each-false p e Units = all-fail _ _ (λ i below. p .candidate i below .units)
+  each-false p e Column = all-fail _ _ (λ i below. p .candidate i below .column)
+  each-false p e Desk = e
 
-    short-fails : conditionOf Desk ≡ false
-    short-fails = only (rest-fails edition1 bytes 0 (layoutOf bytes .candidates .count) desk fs)
-      where
-        only : {r : Rule} → Each (Fails bytes) (r ∷ []) → r .holds bytes ≡ false
-        only (each-of f no-rule) = f .not-held
-
-  none-holds : Each (Fails bytes) rules → (q : Refusal) → conditionOf q ≡ false
-  unfolding ownRules firstRules
-  none-holds (each-of f fs) Stub = f .not-held
-  none-holds (each-of a (each-of f fs)) Edition = f .not-held
-  none-holds (each-of a (each-of b (each-of f fs))) Size = f .not-held
-  none-holds (each-of a (each-of b (each-of c (each-of f fs)))) Reach = f .not-held
-  none-holds (each-of a (each-of b (each-of c (each-of d (each-of f fs))))) Track = f .not-held
-  none-holds (each-of a (each-of b (each-of c (each-of d (each-of e (each-of f fs)))))) Cost = f .not-held
-  none-holds (each-of a (each-of b (each-of c (each-of d (each-of e (each-of g (each-of f fs))))))) Bare = f .not-held
-  none-holds (each-of a (each-of b (each-of c (each-of d (each-of e (each-of g (each-of f fs))))))) Twice = all-fail _ _ (λ i below. of-candidate fs i below .twice)
-  none-holds (each-of a (each-of b (each-of c (each-of d (each-of e (each-of g (each-of f fs))))))) Units = all-fail _ _ (λ i below. of-candidate fs i below .units)
-  none-holds (each-of a (each-of b (each-of c (each-of d (each-of e (each-of g (each-of f fs))))))) Column = all-fail _ _ (λ i below. of-candidate fs i below .column)
-  none-holds (each-of a (each-of b (each-of c (each-of d (each-of e (each-of g (each-of f fs))))))) Desk = short-fails fs
+  no-condition : Each (Fails bytes) rules → (q : Refusal) → conditionOf q ≡ false
+  no-condition fs =
+      let split = each-split (ownRules edition1 bytes) fs in
+      each-false (none-holds edition1 bytes (split .0)) (last (split .1))
+    where
+      last : {r : Rule} → Each (Fails bytes) (r ∷ []) → r .holds bytes ≡ false
+      last (each-of f no-rule) = f .not-held
 
   -- none is given exactly where no condition holds
   pub accepted-under-none : (refusalWith bytes best back out ≡ none) ↔ ((q : Refusal) → conditionOf q ≡ false)
   unfolding refusalWith
-  accepted-under-none = (λ e. none-holds (none-fails bytes rules e), λ none-true. fails-none bytes rules (each-fails rules none-true sound))
+  accepted-under-none = (λ e. no-condition (none-fails bytes rules e), λ none-true. fails-none bytes rules (each-fails rules none-true sound))
 
   -- a chain of tests that gives q, past one of a lower number
   past : (b : Bool) (p q : Refusal) (rest : Option Refusal) → cond b (some p) rest ≡ some q → numberOf p < numberOf q → (b ≡ false) × (rest ≡ some q)

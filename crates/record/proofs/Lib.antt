@@ -5,11 +5,11 @@ pub mod Sizes
 pub mod Below
 pub mod Entries
 pub mod Chain
+pub mod RuleLists
 mod Passed
 pub mod Figures
 mod Fits
 pub mod Accepted
 pub mod Answers
-pub mod RuleLists
 pub mod Given
 pub mod Reading

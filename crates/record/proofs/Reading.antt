@@ -2,7 +2,7 @@
 use Prim.Native.Nat.{ℕ, _+_, _*_, _≤_, _<_}
 use mathlib.Core.Bool.{Bool, not}
 use mathlib.Core.List.{List}
-use mathlib.Core.Path.{_≡_, sym, ap, subst, subst⁻¹, _∙_}
+use mathlib.Core.Path.{_≡_, refl, sym, ap, subst, subst⁻¹, _∙_}
 use native.Mathlib.Omega.{arith}
 use lib.ListN.{length}
 use lib.Dec.{T}
@@ -24,6 +24,15 @@ use Rattle.record.specs.declared.read.Which.{Which}
 use Rattle.record.specs.declared.read.Which.the-variants.{Nuclei, Count}
 use Rattle.record.proofs.Sizes.{reaching, within-layout, candidates-layout, moderate}
 use Rattle.record.proofs.Accepted.{laid-passed, meaning, fit}
+
+-- "Rows are nuclei, then anchors."
+pub nuclei-first : (bytes : List ℕ) → phraseOf bytes .nuclei .firstRow ≡ 0
+unfolding phraseOf phraseAt
+nuclei-first bytes = refl
+
+pub added-next : (bytes : List ℕ) → phraseOf bytes .added .firstRow ≡ length (phraseOf bytes .nuclei .anchors)
+unfolding phraseOf phraseAt
+added-next bytes = sym (length-listed _ (layoutOf bytes .nuclei .count))
 
 -- ---- where the sections stand, and what they mean
 

@@ -14,6 +14,10 @@ pub data Each (P : Rule → Type 0) : List Rule → Type 0 where
   no-rule : Each P []
   each-of : {r : Rule} {rs : List Rule} → P r → Each P rs → Each P (r ∷ rs)
 
+pub each-split : {P : Rule → Type 0} (rs : List Rule) {rest : List Rule} → Each P (rs ++ rest) → Each P rs × Each P rest
+each-split [] ps = (no-rule, ps)
+each-split (r ∷ rs) (each-of p ps) = let split = each-split rs ps in (each-of p (split .0), split .1)
+
 -- the rule does not hold of the record
 pub record Fails (bytes : List ℕ) (r : Rule) : Type 0 where
   pub not-held : r .holds bytes ≡ false

@@ -28,7 +28,7 @@ fn rate_or_mark(body: &[u8], answer: Answer) -> f64 {
 }
 
 // How many frames, the default, the frames.
-pub fn rate_s(body: &[u8], answer: Answer) -> bool {
+pub(crate) fn rate_s(body: &[u8], answer: Answer) -> bool {
     let at = 4 * (answer.words as usize);
     let mut frames = [0u32; MOST_FRAMES];
     let n = list(body, at + 12, word(body, at), &mut frames);
@@ -54,7 +54,7 @@ fn spans_agree(
 }
 
 // How many nuclei, how many boundaries, the words of the output, the edges, the nuclei, the boundaries.
-pub fn tbu_spans(body: &[u8], answer: Answer) -> bool {
+pub(crate) fn tbu_spans(body: &[u8], answer: Answer) -> bool {
     let at = 4 * (answer.words as usize);
     let mut nuclei = [0u32; MOST_FRAMES];
     let n = list(body, at + 20, word(body, at), &mut nuclei);
@@ -65,7 +65,7 @@ pub fn tbu_spans(body: &[u8], answer: Answer) -> bool {
 }
 
 // How long the voice mask is, the edges; the voice mask, and up to the end the pitch mask.
-pub fn joins(body: &[u8], answer: Answer) -> bool {
+pub(crate) fn joins(body: &[u8], answer: Answer) -> bool {
     if body.len() < 12 {
         return false;
     }
@@ -80,7 +80,7 @@ pub fn joins(body: &[u8], answer: Answer) -> bool {
 }
 
 // How long the pitch mask is, the edges, the next nucleus; the pitch mask, and up to the end that of vowel speech.
-pub fn creaky_tail(body: &[u8], answer: Answer) -> bool {
+pub(crate) fn creaky_tail(body: &[u8], answer: Answer) -> bool {
     if body.len() < 16 {
         return false;
     }

@@ -73,7 +73,7 @@ fn agrees(
         & !not_written(out, body, words)
 }
 
-pub fn decode(body: &[u8], answer: Answer, record: &mut [u8]) -> bool {
+pub(crate) fn decode(body: &[u8], answer: Answer, record: &mut [u8]) -> bool {
     let at = 4 * (answer.words as usize);
     lay(body, at + 16, record);
     let len = least(word(body, at), record.len());

@@ -9,10 +9,10 @@ ghost use Rattle.replay.specs.Marks.{wordAt};
 
 // The number of the refusal, or 0; what is returned where there is none; and how many words the call leaves in lent memory, which are
 // the first of the case.
-pub struct Answer {
-    pub refusal: u32,
-    pub returned: u32,
-    pub words: u32,
+pub(crate) struct Answer {
+    pub(crate) refusal: u32,
+    pub(crate) returned: u32,
+    pub(crate) words: u32,
 }
 
 // A number as it stands, or as one that no call returns.
@@ -23,12 +23,12 @@ fn few(n: u32) -> u32
 }
 
 impl Answer {
-    pub fn accepted(self) -> bool {
+    pub(crate) fn accepted(self) -> bool {
         self.refusal == 0
     }
 
     // As the C interface returns it.
-    pub fn status(self) -> i32 {
+    pub(crate) fn status(self) -> i32 {
         if self.refusal == 0 {
             few(self.returned) as i32
         } else {
@@ -38,7 +38,7 @@ impl Answer {
 }
 
 // The word at a place; 0 past the end.
-pub fn word(body: &[u8], at: usize) -> u32
+pub(crate) fn word(body: &[u8], at: usize) -> u32
     ensures { λ r. ⌜ r ≡ wordAt (now (body .entry)) at ⌝ }
 {
     if body.len() < 4 {
@@ -50,12 +50,12 @@ pub fn word(body: &[u8], at: usize) -> u32
     u32_at(body, at)
 }
 
-pub fn byte(body: &[u8], at: usize) -> u8 {
+pub(crate) fn byte(body: &[u8], at: usize) -> u8 {
     if at < body.len() { body[at] } else { 0 }
 }
 
 // The float of two words, the lower half first; for the pattern of a NaN, some NaN.
-pub fn float(low: u32, high: u32) -> f64 {
+pub(crate) fn float(low: u32, high: u32) -> f64 {
     let bits = low as u64 + 4294967296 * (high as u64);
     if bits % 0x8000_0000_0000_0000 > 0x7ff0_0000_0000_0000 {
         0.0 / 0.0
@@ -64,7 +64,7 @@ pub fn float(low: u32, high: u32) -> f64 {
     }
 }
 
-pub fn least(n: u32, most: usize) -> usize
+pub(crate) fn least(n: u32, most: usize) -> usize
     ensures { λ r. ⌜ r ≤ most ⌝ }
 {
     let n = n as usize;
@@ -72,7 +72,7 @@ pub fn least(n: u32, most: usize) -> usize
 }
 
 // Puts so many words into the cells, as far as there is room, and answers how many.
-pub fn list(body: &[u8], at: usize, count: u32, cells: &mut [u32]) -> usize
+pub(crate) fn list(body: &[u8], at: usize, count: u32, cells: &mut [u32]) -> usize
     requires { ⌜ at + 4 * length (now cells) < 2 ^ 64 ⌝ }
     ensures { λ r. ⌜ Counts r (now (cells .exit)) ⌝ }
 {

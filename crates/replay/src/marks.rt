@@ -8,9 +8,9 @@ ghost use lib.Dec.{ltb};
 ghost use lib.ListN.{length};
 ghost use Rattle.replay.specs.Marks.{zeroOrMark, wordOrMark, unlike, floatZeroOrMark, sameFloat, unlikeFloats};
 
-pub const MARK: u32 = 0xdead_beef;
+pub(crate) const MARK: u32 = 0xdead_beef;
 
-pub const FLOAT_MARK: f64 = 7777.25;
+pub(crate) const FLOAT_MARK: f64 = 7777.25;
 
 fn zero_or_mark(i: usize, count: usize) -> u32
     ensures { λ r. ⌜ r ≡ zeroOrMark count i ⌝ }
@@ -19,7 +19,7 @@ fn zero_or_mark(i: usize, count: usize) -> u32
 }
 
 // Whether some cell is not as it should be: 0 in the first cells, so many, and the mark in the others.
-pub fn not_cleared(cells: &[u32], count: usize) -> bool
+pub(crate) fn not_cleared(cells: &[u32], count: usize) -> bool
     ensures { λ r. ⌜ r ≡ unlike (zeroOrMark count) (now (cells .entry)) ⌝ }
 {
     let mut i = 0;
@@ -40,7 +40,7 @@ fn word_or_mark(body: &[u8], i: usize, count: usize) -> u32
 }
 
 // Whether some cell is not as it should be: the case's first words, so many, and the mark in the other cells.
-pub fn not_written(cells: &[u32], body: &[u8], count: usize) -> bool
+pub(crate) fn not_written(cells: &[u32], body: &[u8], count: usize) -> bool
     ensures { λ r. ⌜ r ≡ (ltb (length (now (cells .entry))) count || unlike (wordOrMark (now (body .entry)) count) (now (cells .entry))) ⌝ }
 {
     if cells.len() < count {
@@ -57,7 +57,7 @@ pub fn not_written(cells: &[u32], body: &[u8], count: usize) -> bool
 }
 
 // Whether two floats are the same, +0 and -0 told apart; no NaN is.
-pub fn same_float(x: f64, y: f64) -> bool
+pub(crate) fn same_float(x: f64, y: f64) -> bool
     ensures { λ r. ⌜ r ≡ sameFloat x y ⌝ }
 {
     if x != x {
@@ -76,7 +76,7 @@ fn float_zero_or_mark(i: usize, count: usize) -> f64
 }
 
 // As `not_cleared`, for floats: the first cells are +0.
-pub fn floats_not_cleared(cells: &[f64], count: usize) -> bool
+pub(crate) fn floats_not_cleared(cells: &[f64], count: usize) -> bool
     ensures { λ r. ⌜ r ≡ unlikeFloats (floatZeroOrMark count) (now (cells .entry)) ⌝ }
 {
     let mut i = 0;

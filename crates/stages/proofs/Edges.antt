@@ -1,14 +1,13 @@
 -- Which frame an edge is.
 use Prim.Native.Nat.{ℕ, zero, suc, _+_, _-_, _≤_, _<_, min}
 use mathlib.Core.Path.{_≡_, refl, ap}
-use mathlib.Core.Bool.{Bool, true, false, not}
 use mathlib.Core.List.{List, [], _∷_}
 use native.Mathlib.Omega.{arith}
-use native.Mathlib.Nat.{le-refl, add-zero, add-suc}
-use native.Mathlib.Numerals.{add-one}
-use lib.Dec.{T, ltb, ltb→lt, nltb→le}
+use native.Mathlib.Nat.{le-refl}
 use lib.ListN.{length, getD, List·getD-eq-default}
+use Rattle.laws.proofs.Numbers.{by-order}
 use Rattle.paths.specs.Frames.{Increasing}
+use Rattle.paths.proofs.Frames.{increasing-le}
 use Rattle.stages.specs.Edges.{edge}
 
 pub edge-in : (bounds : List ℕ) (last j : ℕ) → j < length bounds → edge bounds last j ≡ getD bounds j 0
@@ -22,36 +21,22 @@ edge-in (b ∷ bounds) last (suc j) h = edge-in bounds last j (omega arith)
 pub edge-end : (bounds : List ℕ) (last : ℕ) → edge bounds last (length bounds) ≡ last
 edge-end bounds last = List·getD-eq-default bounds last (le-refl (length bounds))
 
--- the next boundary is not before this one
-pub ascends : (bounds : List ℕ) → Increasing bounds → (j : ℕ) → j + 1 < length bounds → getD bounds j 0 ≤ getD bounds (j + 1) 0
-ascends bounds increasing j h = rw (add-one j) (omega (arith, increasing j (omega arith)))
-
--- nor is the next edge, where the last frame is not
+-- the next edge is not before this boundary, where the last frame is not
 pub edge-ascends : (bounds : List ℕ) (last : ℕ) → Increasing bounds → (j : ℕ) → j < length bounds → getD bounds j 0 ≤ last
     → getD bounds j 0 ≤ edge bounds last (j + 1)
-edge-ascends bounds last increasing j h k = go (ltb (j + 1) (length bounds)) (ltb→lt (j + 1) (length bounds)) (nltb→le (j + 1) (length bounds))
-  where
-    go : (more : Bool) → (T more → j + 1 < length bounds) → (T (not more) → length bounds ≤ j + 1) → getD bounds j 0 ≤ edge bounds last (j + 1)
-    go true less greater = rw (edge-in bounds last (j + 1) (less tt)) (ascends bounds increasing j (less tt))
-    go false less greater =
-        let e : j + 1 ≡ length bounds = omega (arith, greater tt) in
-        rw (e, edge-end bounds last) k
-
-climb : (bounds : List ℕ) → Increasing bounds → (i steps : ℕ) → i + steps < length bounds → getD bounds i 0 ≤ getD bounds (i + steps) 0
-climb bounds increasing i zero h = rw (add-zero i) (omega arith)
-climb bounds increasing i (suc steps) h =
-    rw (add-suc i steps) (omega (arith, climb bounds increasing i steps (omega arith), increasing (i + steps) (omega arith)))
+edge-ascends bounds last increasing j h k =
+    by-order (j + 1) (length bounds)
+    (λ less. rw (edge-in bounds last (j + 1) less) (increasing-le bounds increasing j (j + 1) (omega arith) less))
+    (λ greater.
+    let e : j + 1 ≡ length bounds = omega arith in
+    rw (e, edge-end bounds last) k)
 
 -- Edges ascend, clamped to the last frame.
 pub edges-climb : (bounds : List ℕ) (last : ℕ) → Increasing bounds → (i j : ℕ) → i ≤ j → j ≤ length bounds
     → min (edge bounds last i) last ≤ min (edge bounds last j) last
-edges-climb bounds last increasing i j h k = go (ltb j (length bounds)) (ltb→lt j (length bounds)) (nltb→le j (length bounds))
-  where
-    go : (more : Bool) → (T more → j < length bounds) → (T (not more) → length bounds ≤ j) → min (edge bounds last i) last ≤ min (edge bounds last j) last
-    go true less greater =
-        let e : i + (j - i) ≡ j = omega arith in
-        let up = rw e at (climb bounds increasing i (j - i) (omega (arith, less tt))) in
-        omega (arith, up, edge-in bounds last i (omega (arith, less tt)), edge-in bounds last j (less tt))
-    go false less greater =
-        let e : j ≡ length bounds = omega (arith, greater tt) in
-        omega (arith, ap (λ (n : ℕ). edge bounds last n) e, edge-end bounds last)
+edges-climb bounds last increasing i j h k =
+    by-order j (length bounds)
+    (λ less. omega (arith, increasing-le bounds increasing i j h less, edge-in bounds last i (omega arith), edge-in bounds last j less))
+    (λ greater.
+    let e : j ≡ length bounds = omega arith in
+    omega (arith, ap (λ (n : ℕ). edge bounds last n) e, edge-end bounds last))

@@ -10,6 +10,7 @@ use Rattle.laws.proofs.Listed.{table-at, table-same, length-table, length-padde
 use Rattle.laws.specs.Listed.{padded, tableOf}
 use Rattle.phrase.specs.declared.costs.Costs.{Costs}
 use Rattle.phrase.specs.Filler.{fillerCost}
+use Rattle.paths.proofs.Frames.{speechIn-split}
 use Rattle.paths.specs.Frames.{speechIn}
 use Rattle.paths.specs.Anchors.{Anchor, keptIn, heldIn}
 use Rattle.paths.specs.LookAhead.{ahead, frameOr, rowOr, firstAhead, secondAhead, rowAhead}
@@ -22,7 +23,6 @@ use Rattle.stages.specs.Filler.{Ascends, stretch, startAt, noCost, Price
 use Rattle.stages.specs.Ahead.{Within, LooksAhead}
 use Rattle.stages.specs.Parts.{Fit, FitList, costOf, Fills, Sees}
 use Rattle.stages.proofs.Edges.{edge-in, edge-end, edges-climb}
-use Rattle.stages.proofs.Speech.{speech-split}
 use Rattle.stages.proofs.Places.{below-le, climbs-padded, count-padded}
 use Rattle.stages.proofs.Held.{Below, kept-below, kept-climbs, kept-few, held-count, held-on, all-below, ahead-drop, figure-from, tail-drop}
 
@@ -159,7 +159,7 @@ module _ {mask : List ℕ} {anchors : List Anchor} {frames bounds places : List 
         → getD speech j 0 ≡ getD speech i 0 + speechIn mask (edge bounds (length mask) i) (edge bounds (length mask) j)
     speech-between i j h k =
         speech-at j k
-        ∙ speech-split mask 0 (edge bounds (length mask) i) (edge bounds (length mask) j) (omega arith)
+        ∙ speechIn-split mask 0 (edge bounds (length mask) i) (edge bounds (length mask) j) (omega arith)
         (edges-climb bounds (length mask) (p .fit .listed .ascending) i j h k)
         ∙ ap (λ (n : ℕ). n + speechIn mask (edge bounds (length mask) i) (edge bounds (length mask) j)) (sym (speech-at i (omega arith)))
 

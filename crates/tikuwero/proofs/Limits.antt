@@ -1,5 +1,5 @@
 -- The values and the refusals that are returned are small numbers.
-use Prim.Native.Nat.{ℕ, zero, suc, _+_, _*_, _≤_, zero-le, suc-le-suc}
+use Prim.Native.Nat.{ℕ, _*_, _≤_, zero-le}
 use mathlib.Core.Bool.{Bool, true, false, _||_, cond}
 use mathlib.Core.List.{List}
 use mathlib.Core.Path.{_≡_, refl, sym, subst}
@@ -10,7 +10,8 @@ use lib.Dec.{ltb}
 use lib.ListN.{length}
 use borrow.Author.Tests.{ltb-false}
 use Rattle.frames.specs.Outcome.{Outcome, accepted, refused, anyAbove, lastFrame, mostFrames}
-use Rattle.frames.specs.Frames.{lowestFrom, onward, ascendingFrom, ascending}
+use Rattle.frames.specs.Frames.{ascending}
+use Rattle.frames.proofs.Ascending.{ascending-le}
 use Rattle.spans.specs.Spans.{tbuSpansOf}
 use Rattle.record.specs.Edition.{edition1}
 use Rattle.record.specs.Layout.{layoutOf}
@@ -21,18 +22,6 @@ use Rattle.record.specs.declared.refusal.Refusal.the-variants.{Stub, Edition, S
 use Rattle.record.proofs.Accepted.{counts}
 use Rattle.decoding.specs.Contract.{outcomeOf}
 use Rattle.decoding.proofs.Calls.{own-rules, candidates-counted}
-use Rattle.frames.specs.declared.list.Nearest.{Nearest}
-use Rattle.frames.specs.declared.list.Nearest.the-variants.{None, At}
-
--- a walk has at most as many frames as turns
-walked : (n f : ℕ) (xs : List ℕ) → length (ascendingFrom n f xs) ≤ n
-unfolding ascendingFrom
-walked zero f xs = zero-le
-walked (suc n) f xs = go (lowestFrom f xs) (λ g. walked n g xs)
-  where
-    go : (near : Nearest) → ((g : ℕ) → length (ascendingFrom n g xs) ≤ n) → length (onward near (λ g. ascendingFrom n (g + 1) xs)) ≤ suc n
-    go None rest = zero-le
-    go (At g) rest = suc-le-suc (rest (g + 1))
 
 -- the value of an accepted outcome, and what stands in for it
 abbrev valueOr : ℕ → Outcome ℕ → ℕ
@@ -55,7 +44,7 @@ spans-within nuclei bounds lo hi room {count} e =
     go false true high short few = zero-le
     go false false true short few = zero-le
     go false false false true few = zero-le
-    go false false false false few = le-trans (walked (length nuclei) 0 nuclei) (few refl)
+    go false false false false few = le-trans (ascending-le (length nuclei) 0 nuclei) (few refl)
 
 -- a count of entries is at most the most candidates of a record
 pub entries-within :

@@ -7,8 +7,9 @@ use lib.ListN.{length, getD, set}
 use Rattle.laws.proofs.Filling.{Filling, filling-none, filling-more, filling-all}
 use Rattle.paths.specs.Frames.{speechIn}
 use Rattle.stages.specs.Edges.{edge, speechBefore}
-use Rattle.stages.proofs.Edges.{edge-in, edge-end, ascends}
-use Rattle.stages.proofs.Speech.{speech-none, speech-on, speech-le}
+use Rattle.paths.proofs.Frames.{increasing-le, speechIn-le}
+use Rattle.stages.proofs.Edges.{edge-in, edge-end}
+use Rattle.stages.proofs.Speech.{speech-none, speech-on}
 use Rattle.stages.proofs.counts.count_speech.Statement.{statement}
 use Rattle.stages.proofs.counts.count_speech.Tie as tie
 
@@ -66,7 +67,7 @@ speech-in-requires c κs = search needs
 add-count : tie.Need-add-count Inv-loop μ-loop
 add-count c =
     let args = c .before .before .before .before .before .before .before .args in
-    omega (arith, counted c, speech-le (args .mask .now) 0 (getD (args .bounds .now) (c .before .before .before .loop .j) 0))
+    omega (arith, counted c, speechIn-le (args .mask .now) 0 (getD (args .bounds .now) (c .before .before .before .loop .j) 0))
 
 mul-counts : tie.Need-mul-counts Inv-loop μ-loop
 mul-counts c = omega arith
@@ -89,7 +90,7 @@ loop-again c =
       filling-more (l .inv .0) (omega arith) (counted c ∙ ap (speechIn mask 0) (sym (edge-in bounds (length mask) (l .j) (omega arith)))),
       omega arith,
       counted c,
-      ascends bounds (start .pre .2) (l .j),
+      increasing-le bounds (start .pre .2) (l .j) (l .j + 1) (omega arith),
     )
 
 speech-in-requires-2 : tie.Need-speech-in-requires-2 Inv-loop μ-loop
@@ -98,7 +99,7 @@ speech-in-requires-2 c κs = search needs
 add-counts : tie.Need-add-counts Inv-loop μ-loop
 add-counts c =
     let mask = c .before .before .before .before .before .before .args .mask .now in
-    omega (arith, counted-all c, speech-le mask 0 (length mask))
+    omega (arith, counted-all c, speechIn-le mask 0 (length mask))
 
 mul-counts-2 : tie.Need-mul-counts-2 Inv-loop μ-loop
 mul-counts-2 c = omega arith

@@ -6,7 +6,8 @@ use native.Mathlib.Omega.{arith}
 use borrow.Author.Needs.{needs}
 use lib.ListN.{length, getD}
 use Rattle.paths.specs.Frames.{speechFrom, speechIn}
-use Rattle.stages.proofs.Speech.{weight-le, from-le, from-next}
+use Rattle.paths.proofs.Frames.{weight-le, speechFrom-le}
+use Rattle.stages.proofs.Speech.{from-next}
 use Rattle.stages.proofs.counts.speech_in.Statement.{statement}
 use Rattle.stages.proofs.counts.speech_in.Tie as tie
 
@@ -44,7 +45,7 @@ add-count c =
     let mask = c .before .before .before .before .before .before .before .args .mask .now in
     let start = c .before .before .before .before .clamped2 .result in
     let l = c .before .before .before .loop in
-    omega (arith, weight-le (getD mask (l .at) 0), from-le mask start (l .at - start))
+    omega (arith, weight-le (getD mask (l .at) 0), speechFrom-le mask start (l .at - start))
 
 add-at : tie.Need-add-at Inv-loop μ-loop
 add-at c = omega arith
