@@ -1,0 +1,94 @@
+#!/usr/bin/env python3
+"""The wrong programs that were tried against each public function of the libraries.
+
+tools/wrong.py list [CRATE...]   each public function with the edits that make a wrong program of it; the exit status
+                                 is 1 if one has fewer than two
+tools/wrong.py try CRATE...      apply the edits of crates/CRATE/tried/, and show for each the first parts of the
+                                 proof that are missed; the exit status is 1 if none is
+
+The gate tries the edits of crates/CRATE/must-fail/. Those of crates/CRATE/tried/ are left to this program, since each
+proves its crate again. An edit counts for the function whose text it changes and, where that is a private function or
+a constant, for the public functions of the crate that use it. Edits of definitions are not listed.
+"""
+import re
+import shutil
+import subprocess
+import sys
+import tempfile
+from collections import namedtuple
+from pathlib import Path
+
+TOP = Path(__file__).resolve().parent.parent
+PROGRAMS = {"ieee_vectors", "record_tests", "evidence_tests", "printing", "listing", "listings", "replay"}
+HEAD = re.compile(r'^ *(pub(?:\(crate\))? )?(?:extern "C" )?(?:fn|const) (\w+)', re.M)
+USE = re.compile(r"\b(\w+)\(|\b([A-Z][A-Z0-9_]+)\b")
+MISSED = re.compile(r"/(?:proofs|src)/(\S+?)(?:/Proof.antt)?:\d+:\d+: (?:error: `([^`]+)`|it is not proved .*\(`([^`]+)`)")
+Item = namedtuple("Item", "name file public text")
+
+
+def libraries():
+    lines = (TOP / "crates.txt").read_text().splitlines()
+    names = [line.split(":")[0] for line in lines if line and not line.startswith("#")]
+    return [name for name in names if name not in PROGRAMS]
+
+
+def items_of(crate):
+    """The functions and constants of a crate, each with its text up to the next one."""
+    for path in sorted((crate / "src").rglob("*.rt")):
+        text = path.read_text()
+        heads = list(HEAD.finditer(text))
+        ends = [head.start() for head in heads[1:]] + [len(text)]
+        for head, end in zip(heads, ends):
+            yield Item(head[2], str(path.relative_to(crate)), head[1] == "pub ", text[head.start() : end])
+
+
+def edits_of(crate):
+    """The label, file and old text of each edit of a crate."""
+    for path in sorted(crate.glob("must-fail/*.edit")) + sorted(crate.glob("tried/*.edit")):
+        fields = dict(re.findall(r"^(file|old): (.*)$", path.read_text(), re.M))
+        yield path.stem, fields["file"], fields["old"]
+
+
+def labels_of(item, inner, edits, seen):
+    labels = {label for label, file, old in edits if file == item.file and old in item.text}
+    used = {call or constant for call, constant in USE.findall(item.text)}
+    for name in used & inner.keys() - seen:
+        labels |= labels_of(inner[name], inner, edits, seen | {name})
+    return labels
+
+
+def show(crates):
+    lacking = 0
+    for name in crates:
+        crate = TOP / "crates" / name
+        items, edits = list(items_of(crate)), list(edits_of(crate))
+        inner = {item.name: item for item in items if not item.public or item.name.isupper()}
+        for item in items:
+            if item.public and not item.name.isupper():
+                labels = labels_of(item, inner, edits, {item.name})
+                lacking += len(labels) < 2
+                print(f"{name}::{item.name}: {', '.join(sorted(labels)) or 'none'}")
+    print(f"{lacking} public functions with fewer than two")
+    return lacking > 0
+
+
+def attempt(crates):
+    with tempfile.TemporaryDirectory() as folder:
+        copy = Path(folder) / "copy"
+        shutil.copytree(TOP, copy, ignore=shutil.ignore_patterns("must-fail", ".git", "oracle", "bench"))
+        for name in crates:
+            (copy / "crates" / name / "tried").rename(copy / "crates" / name / "must-fail")
+        status = subprocess.run(["rt", "must-fail", *crates], cwd=copy).returncode
+        for log in sorted(copy.glob("target/must-fail/*/*/.log")):
+            missed = [f"{place}: {name or of_search}" for place, name, of_search in MISSED.findall(log.read_text())]
+            print(f"{log.parent.parent.name}/{log.parent.name}: {', '.join(missed[:4]) or 'nothing missed'}")
+    return status != 0
+
+
+if __name__ == "__main__":
+    action, names = sys.argv[1:2], sys.argv[2:]
+    if action == ["list"]:
+        sys.exit(show(names or libraries()))
+    if action == ["try"] and names:
+        sys.exit(attempt(names))
+    sys.exit(__doc__)
