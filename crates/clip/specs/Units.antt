@@ -22,8 +22,8 @@ unfoldable pub unitsFrom : List ℕ → List ℕ → List ℕ → ℕ → ℕ �
 unitsFrom starts ends rows i zero = []
 unitsFrom starts ends rows i (suc n) = unitAt starts ends rows i ∷ unitsFrom starts ends rows (i + 1) n
 
-abbrev pub unitsOf : List ℕ → List ℕ → List ℕ → List Placed
-unitsOf starts ends rows = unitsFrom starts ends rows 0 (length rows)
+abbrev pub placedFrom : List ℕ → List ℕ → List ℕ → List Placed
+placedFrom starts ends rows = unitsFrom starts ends rows 0 (length rows)
 
 -- the span reported for unit i, where the one before it ends at `low`
 abbrev pub reportAt : ℕ → List ℕ → List ℕ → List ℕ → ℕ → Span

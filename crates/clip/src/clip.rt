@@ -7,7 +7,7 @@ ghost use mathlib.Core.List.{List};
 ghost use Prim.Native.Nat.{ℕ, _-_, _<_, _≤_, min, max};
 ghost use lib.ListN.{length};
 ghost use Rattle.clip.specs.Clip.{nextStart};
-ghost use Rattle.clip.specs.Units.{unitsFrom, unitsOf, reportAt, Alike, Clipped};
+ghost use Rattle.clip.specs.Units.{unitsFrom, placedFrom, reportAt, Alike, Clipped};
 
 // Stands for the row of a unit without an anchor.
 pub const NO_ROW: u32 = 4294967295;
@@ -59,7 +59,7 @@ fn report(starts: &[u32], ends: &[u32], rows: &[u32], s: usize, low: u32) -> Spa
 // Puts the reported spans in place of the given ones. The rows say which units have an anchor.
 pub fn clip_unanchored(starts: &mut [u32], ends: &mut [u32], rows: &[u32])
     requires { ⌜ Alike (now starts) (now ends) (now rows) ⌝ }
-    ensures { λ _. ⌜ Clipped (unitsOf (now (starts .entry)) (now (ends .entry)) (now (rows .entry))) (now (starts .exit)) (now (ends .exit)) ⌝ }
+    ensures { λ _. ⌜ Clipped (placedFrom (now (starts .entry)) (now (ends .entry)) (now (rows .entry))) (now (starts .exit)) (now (ends .exit)) ⌝ }
 {
     if rows.len() == 0 {
         return;

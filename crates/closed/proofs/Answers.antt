@@ -1,50 +1,38 @@
 -- From one pass to the answer of the search through them. Assumes nothing.
 use mathlib.Core.Bool.{true, false}
-use mathlib.Core.Path.{_≡_, refl, sym, ap, _∙_}
+use mathlib.Core.Path.{_≡_, refl, ap}
 use Prim.Native.Nat.{ℕ}
 use native.Mathlib.Omega.{arith}
-use lib.Ieee.{Float}
 use Rattle.paths.specs.declared.passes.Pass.{Pass}
 use Rattle.paths.specs.Problem.{Problem}
 use Rattle.paths.specs.Path.{Path as Route, sum}
 use Rattle.paths.specs.Cell.{Cell, empty, held, carry}
 use Rattle.paths.specs.CellRule.{chosenPath}
+use Rattle.paths.proofs.Cells.{held-same}
 use Rattle.paths.specs.Demand.{none, Answer as Demanded}
 use Rattle.paths.specs.Search.{orElse}
 use Rattle.rows.specs.Traced.{UnitsAre}
+use Rattle.closed.specs.declared.path.Found.{Found}
 use Rattle.closed.specs.declared.path.Found.the-variants.{Sum, NoPath}
 use Rattle.closed.specs.declared.path.Path.{Path}
-use Rattle.closed.specs.declared.search.Answer.the-variants.{None}
 use Rattle.closed.specs.declared.search.Answer.the-variants.{Found as FoundIn}
 use Rattle.closed.specs.declared.search.Searched.{Searched}
 use Rattle.closed.specs.Reported.{sumFound, unitsIn, Reports}
-use Rattle.closed.specs.Answered.{Says, isFound}
-
-same-held : {a b : Float} → held a ≡ held b → a ≡ b
-same-held e = cc
+use Rattle.closed.specs.Answered.{Says, isFound, answerIn}
 
 -- a path reported is that of the pass, and "no path" is said where there is none
 module _ (pass : Pass) (q : Problem) (k : ℕ) (path : Path) (reports : Reports q k path) where
-  pub says-found :
-      {total : Float} → path .found ≡ Sum total → Says (orElse pass q (chosenPath q k) none) (record { answer = FoundIn pass total; units = path .units })
+  pub says-path : Says (orElse pass q (chosenPath q k) none) (record { answer = answerIn pass (path .found); units = path .units })
   unfolding carry
-  says-found {total} e = go (chosenPath q k) (sym (ap sumFound e) ∙ reports .found) (reports .units)
+  says-path = go (path .found) (chosenPath q k) (reports .found) (reports .units)
     where
       go :
-          (c : Cell Route) → held total ≡ carry (sum q) c → UnitsAre (path .units) (unitsIn c) →
-          Says (orElse pass q c none) (record { answer = FoundIn pass total; units = path .units })
-      go empty is units = absurd (let z : _≡_ {A = ℕ} 0 1 = cc in omega arith)
-      go (held route) is units = (ap (FoundIn pass) (same-held is), units)
-
-  pub says-none : path .found ≡ NoPath → Says (orElse pass q (chosenPath q k) none) (record { answer = None; units = path .units })
-  unfolding carry
-  says-none e = go (chosenPath q k) (sym (ap sumFound e) ∙ reports .found) (reports .units)
-    where
-      go :
-          (c : Cell Route) → empty ≡ carry (sum q) c → UnitsAre (path .units) (unitsIn c) →
-          Says (orElse pass q c none) (record { answer = None; units = path .units })
-      go empty is units = (refl, units)
-      go (held route) is units = absurd (let z : _≡_ {A = ℕ} 0 1 = cc in omega arith)
+          (f : Found) (c : Cell Route) → sumFound f ≡ carry (sum q) c → UnitsAre (path .units) (unitsIn c) →
+          Says (orElse pass q c none) (record { answer = answerIn pass f; units = path .units })
+      go (Sum total) (held route) is units = (ap (FoundIn pass) (held-same is), units)
+      go NoPath empty is units = (refl, units)
+      go (Sum total) empty is units = absurd (let z : _≡_ {A = ℕ} 0 1 = cc in omega arith)
+      go NoPath (held route) is units = absurd (let z : _≡_ {A = ℕ} 0 1 = cc in omega arith)
 
 -- a pass that finds a path is the answer, whatever the later passes would give; one that finds none leaves it to them
 pub says-first :

@@ -12,10 +12,10 @@ use lib.Ieee.Fits.{and-l}
 use Rattle.laws.proofs.Numbers.{by-order}
 use Rattle.phrase.specs.Phrase.{Phrase, Stage}
 use Rattle.paths.specs.declared.passes.Strictness.{Strictness}
-use Rattle.paths.specs.Frames.{Increasing, within}
-use Rattle.paths.specs.Anchors.{Anchor, select, numbered, keptIn, kept}
+use Rattle.paths.specs.Frames.{Increasing, withinMask}
+use Rattle.paths.specs.Anchors.{Anchor, select, numbered, keptIn, kept, rowOr}
 use Rattle.paths.specs.Units.{shortestUnit, longestUnit, fitsUnit}
-use Rattle.paths.specs.LookAhead.{ahead, frameOr, rowOr, firstAhead, secondAhead, rowAhead}
+use Rattle.paths.specs.LookAhead.{ahead, frameOr, firstAhead, secondAhead, rowAhead}
 use Rattle.paths.specs.StageProblem.{unitValueOf, boundary, problemOf}
 use Rattle.paths.proofs.Frames.{increasing-le}
 use Rattle.paths.proofs.Rising.{Rising, kept-rising}
@@ -72,8 +72,8 @@ frame-below : {anchors : List Anchor} → Every (λ anchor. anchor .frame ≤ be
 frame-below none = le-refl beyond
 frame-below (more h rest) = h
 
-within-below : (mask : List ℕ) (frame : ℕ) → T (within mask frame) → frame < length mask
-unfolding within
+within-below : (mask : List ℕ) (frame : ℕ) → T (withinMask mask frame) → frame < length mask
+unfolding withinMask
 within-below mask frame h = ltb→lt frame (length mask) (and-l (ltb frame (length mask)) (not (eqb (getD mask frame 0) 0)) h)
 
 fits-both : (frames : ℕ) → T (fitsUnit frames) → (shortestUnit ≤ frames) × (frames ≤ longestUnit)
@@ -119,7 +119,7 @@ module _ (phrase : Phrase) (stage : Stage) (t : StageTables) (tabled : Tabled ph
   unfolding keptIn
   in-mask =
       every-map (λ anchor passes. let below = within-below (phrase .mask) (anchor .frame) passes in omega arith)
-      (every-passes (λ anchor. within (phrase .mask) (anchor .frame)) (numbered (stage .firstRow) (stage .anchors)))
+      (every-passes (λ anchor. withinMask (phrase .mask) (anchor .frame)) (numbered (stage .firstRow) (stage .anchors)))
 
   first-below : (from : ℕ) → firstAhead beyond (kept phrase stage) from ≤ beyond
   unfolding firstAhead ahead
@@ -139,7 +139,7 @@ module _ (phrase : Phrase) (stage : Stage) (t : StageTables) (tabled : Tabled ph
   rows-below : (scoreRows : ℕ) → stage .firstRow + length (stage .anchors) ≤ scoreRows → Every (λ anchor. anchor .row < scoreRows) (kept phrase stage)
   unfolding keptIn
   rows-below scoreRows most =
-      every-select (λ anchor. within (phrase .mask) (anchor .frame)) (numbered-rows (stage .firstRow) (stage .anchors) scoreRows most)
+      every-select (λ anchor. withinMask (phrase .mask) (anchor .frame)) (numbered-rows (stage .firstRow) (stage .anchors) scoreRows most)
 
   row-ahead : (scoreRows : ℕ) → 0 < scoreRows → stage .firstRow + length (stage .anchors) ≤ scoreRows → (from : ℕ) → rowAhead 0 (kept phrase stage) from < scoreRows
   unfolding rowAhead ahead

@@ -55,3 +55,8 @@ cleared cells best back = record {
         getD-replicate {A = ℕ} cells j 0 0 h,
       ) unreached;
 }
+
+-- areas that are as they came are unused still
+pub still :
+    {best best′ : List Float} {back back′ : List ℕ} {cells : ℕ} → best′ ≡ best → back′ ≡ back → Unused best back cells → Unused best′ back′ cells
+still e f unused = rw (e, f) unused

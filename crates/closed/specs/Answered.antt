@@ -7,16 +7,19 @@ use lib.Ieee.{Float}
 use lib.ListN.{length}
 use Rattle.phrase.specs.Phrase.{Phrase, Stage}
 use Rattle.paths.specs.declared.passes.Pass.{Pass}
+use Rattle.paths.specs.declared.passes.Pass.the-variants.{CountStrict, CountRelaxed}
 use Rattle.paths.specs.CellRule.{chosenPath}
 use Rattle.record.specs.declared.layout.Layout.{Layout}
 use Rattle.record.specs.declared.layout.Section.{Section}
-use Rattle.paths.specs.Marks.{unitsOf}
+use Rattle.paths.specs.Path.{unitsOf}
 use Rattle.paths.specs.Passes.{passNumber, ofPass, passProblem, speaks, hasNucleus, nonEmpty}
 use Rattle.paths.specs.Demand.{found, none, unvoiced, answerNumber, Answer as Demanded}
 use Rattle.paths.specs.Search.{orElse}
 use Rattle.stages.specs.Tables.{Tabled, tablesIn}
 use Rattle.rows.specs.Traced.{UnitsAre}
 use Rattle.closed.specs.Asked.{Lent}
+use Rattle.closed.specs.declared.path.Found.{Found as PathFound}
+use Rattle.closed.specs.declared.path.Found.the-variants.{Sum, NoPath}
 use Rattle.closed.specs.declared.search.Answer.{Answer}
 use Rattle.closed.specs.declared.search.Answer.the-variants.{Found, None, Unvoiced}
 use Rattle.closed.specs.declared.search.Searched.{Searched}
@@ -44,9 +47,22 @@ isFound Unvoiced = false
 abbrev pub passSection : Layout → Pass → Section
 passSection at pass = ofPass (at .boundaries) (at .added) pass
 
+-- a pass, or else what the later ones give
+abbrev pub passThen : Phrase → List ℕ → Pass → Demanded → Demanded
+passThen phrase columns pass later = orElse pass (passProblem phrase pass columns) (chosenPath (passProblem phrase pass columns) (length columns)) later
+
 -- one pass by itself
 abbrev pub passAnswer : Phrase → Pass → List ℕ → Demanded
-passAnswer phrase pass columns = orElse pass (passProblem phrase pass columns) (chosenPath (passProblem phrase pass columns) (length columns)) none
+passAnswer phrase pass columns = passThen phrase columns pass none
+
+-- "then count strict and count relaxed if there is an added stage"
+abbrev pub addedAnswer : Phrase → List ℕ → Demanded
+addedAnswer phrase columns = passThen phrase columns CountStrict (passAnswer phrase CountRelaxed columns)
+
+-- what a pass says of the path that it found, or did not find
+abbrev pub answerIn : Pass → PathFound → Answer
+answerIn pass (Sum total) = Found pass total
+answerIn pass NoPath = None
 
 -- which passes a phrase has
 pub record RunsOf (phrase : Phrase) (runs : Runs) : Type 0 where

@@ -4,10 +4,10 @@ use mathlib.Core.List.{List, []}
 use mathlib.Core.Path.{_≡_}
 use lib.Ieee.{Float}
 use Rattle.paths.specs.Problem.{Problem}
-use Rattle.paths.specs.Path.{Path as Route, sum}
+use Rattle.paths.specs.Path.{Path as Route, sum, Bounds, unitsOf}
 use Rattle.paths.specs.Cell.{Cell, empty, held, carry}
 use Rattle.paths.specs.CellRule.{rows, chosenPath}
-use Rattle.paths.specs.Marks.{marks, Bounds, unitsOf, Traces}
+use Rattle.paths.specs.Marks.{marks, Traces}
 use Rattle.rows.specs.declared.end.End.{End}
 use Rattle.rows.specs.declared.end.End.the-variants.{At, Nowhere}
 use Rattle.rows.specs.Rows.{Row}

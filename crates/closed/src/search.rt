@@ -8,7 +8,7 @@ ghost use Rattle.paths.specs.Search.{chosen};
 ghost use Rattle.record.specs.Edition.{edition1};
 ghost use Rattle.record.specs.Meaning.{phraseOf};
 ghost use Rattle.rows.specs.Traced.{UnitsAre};
-ghost use Rattle.closed.specs.Answered.{Says, isFound, passWord, passSection, passAnswer, RunsOf, StageLent, BothLent};
+ghost use Rattle.closed.specs.Answered.{Says, isFound, passWord, passSection, answerIn, passAnswer, addedAnswer, RunsOf, StageLent, BothLent};
 ghost use Rattle.closed.specs.Asked.{Candidate, columnsOf, Unused};
 use crate::best_path::best_path;
 use crate::path::Found;
@@ -91,6 +91,16 @@ pub struct Task {
     pub candidate: usize,
 }
 
+// What a pass says of the path that it found, or did not find.
+fn answer_in(pass: Pass, found: Found) -> Answer
+    ensures { λ r. ⌜ r ≡ answerIn pass found ⌝ }
+{
+    match found {
+        Found::Sum(sum) => Answer::Found(pass, sum),
+        Found::NoPath => Answer::None,
+    }
+}
+
 // One pass, over the tables of its stage.
 pub fn attempt<'a>(
     best: &mut [f64],
@@ -125,17 +135,9 @@ pub fn attempt<'a>(
         candidate,
     );
     let found = path.found;
+    let answer = answer_in(pass, found);
     let units = path.units;
-    match found {
-        Found::Sum(sum) => {
-            let answer = Answer::Found(pass, sum);
-            Searched { answer, units }
-        }
-        Found::NoPath => {
-            let answer = Answer::None;
-            Searched { answer, units }
-        }
-    }
+    Searched { answer, units }
 }
 
 // The answer without a path.
@@ -147,6 +149,29 @@ pub fn no_path(answer: Answer) -> Searched
         last: [0u32; 16],
     };
     Searched { answer, units }
+}
+
+// The two passes over the added stage.
+fn search_added<'a>(
+    best: &mut [f64],
+    back: &mut [u32],
+    bytes: &[u8],
+    task: Task,
+    words: &'a [u32],
+    figures: &'a [f64],
+) -> Searched
+    requires { ⌜ Candidate (now bytes) (task .at) (task .costs) (task .candidate) × (hasNucleus (phraseOf (now bytes)) ≡ true) ⌝ }
+    requires { ⌜ StageLent (phraseOf (now bytes)) (phraseOf (now bytes) .added) (now words) (now figures) ⌝ }
+    requires { ⌜ Unused (now best) (now back) (edition1 .«work_cells») ⌝ }
+    ensures { λ r. ⌜ Says (addedAnswer (phraseOf (now (bytes .entry))) (columnsOf (now (bytes .entry)) (task .candidate))) r ⌝ }
+    ensures { λ _. ⌜ (now (best .exit) ≡ now (best .entry)) × (now (back .exit) ≡ now (back .entry)) ⌝ }
+{
+    let strict = attempt(best, back, bytes, task, words, figures, Pass::CountStrict);
+    let answer = strict.answer;
+    if answer.is_found() {
+        return strict;
+    }
+    attempt(best, back, bytes, task, words, figures, Pass::CountRelaxed)
 }
 
 // The first pass that admits a path, in document 01's order, with the path chosen there; or that there is none. The tables
@@ -182,26 +207,5 @@ pub fn search<'a>(
     if !runs.added {
         return attempt(best, back, bytes, task, words, figures, Pass::NucleiRelaxed);
     }
-    let second = attempt(
-        best,
-        back,
-        bytes,
-        task,
-        added_words,
-        added_figures,
-        Pass::CountStrict,
-    );
-    let answer = second.answer;
-    if answer.is_found() {
-        return second;
-    }
-    attempt(
-        best,
-        back,
-        bytes,
-        task,
-        added_words,
-        added_figures,
-        Pass::CountRelaxed,
-    )
+    search_added(best, back, bytes, task, added_words, added_figures)
 }

@@ -8,7 +8,7 @@ use lib.Seq.{take-append-seam, drop-append-seam, length-take-le}
 use Rattle.laws.proofs.Listed.{length-listed, length-table}
 use Rattle.laws.specs.Listed.{padded, listed, tableOf}
 use Rattle.clip.specs.Clip.{reported, startsOf, endsOf}
-use Rattle.clip.specs.Units.{unitsFrom, unitsOf, Alike, Clipped}
+use Rattle.clip.specs.Units.{unitsFrom, placedFrom, Alike, Clipped}
 use Rattle.frames.specs.declared.span.Span.{Span}
 use Rattle.decoding.proofs.Units.{length-reported}
 
@@ -42,25 +42,25 @@ unfolding unitsFrom
 length-unitsFrom starts ends rows i zero = refl
 length-unitsFrom starts ends rows i (suc n) = ap suc (length-unitsFrom starts ends rows (i + 1) n)
 
-pub length-clipped : (starts ends rows : List ℕ) → length (reported (unitsOf starts ends rows)) ≡ length rows
-length-clipped starts ends rows = length-reported (unitsOf starts ends rows) ∙ length-unitsFrom starts ends rows 0 (length rows)
+pub length-clipped : (starts ends rows : List ℕ) → length (reported (placedFrom starts ends rows)) ≡ length rows
+length-clipped starts ends rows = length-reported (placedFrom starts ends rows) ∙ length-unitsFrom starts ends rows 0 (length rows)
 
 -- clipping the fronts
 module _ (f g h : ℕ → ℕ) (k size : ℕ) {starts ends rows : List ℕ}
     (s : starts ≡ tableOf f k size 0) (e : ends ≡ tableOf g k size 0) (r : rows ≡ tableOf h k size 0) (few : k ≤ size) where
   abbrev clips : List Span
-  clips = reported (unitsOf (listed f k) (listed g k) (listed h k))
+  clips = reported (placedFrom (listed f k) (listed g k) (listed h k))
 
   pub alike : Alike (take k starts) (take k ends) (take k rows)
   alike = record { started = front-length f k size s few ∙ sym (front-length h k size r few); ended = front-length g k size e few ∙ sym (front-length h k size r few) }
 
-  same-clips : reported (unitsOf (take k starts) (take k ends) (take k rows)) ≡ clips
-  same-clips i = reported (unitsOf (front f k size s i) (front g k size e i) (front h k size r i))
+  same-clips : reported (placedFrom (take k starts) (take k ends) (take k rows)) ≡ clips
+  same-clips i = reported (placedFrom (front f k size s i) (front g k size e i) (front h k size r i))
 
   count : length clips ≡ k
   count = length-clipped (listed f k) (listed g k) (listed h k) ∙ length-listed h k
 
-  module _ {newStarts newEnds : List ℕ} (clipped : Clipped (unitsOf (take k starts) (take k ends) (take k rows)) newStarts newEnds) where
+  module _ {newStarts newEnds : List ℕ} (clipped : Clipped (placedFrom (take k starts) (take k ends) (take k rows)) newStarts newEnds) where
     pub clipped-starts : newStarts ++ drop k starts ≡ padded (startsOf clips) size 0
     clipped-starts =
         ap (λ (xs : List ℕ). xs ++ drop k starts) (clipped .starting ∙ ap startsOf same-clips)

@@ -13,11 +13,11 @@ use Rattle.phrase.specs.Phrase.{Phrase, Stage}
 use Rattle.paths.specs.declared.passes.Strictness.{Strictness}
 use Rattle.paths.specs.declared.passes.Strictness.the-variants.{Strict, Relaxed}
 use Rattle.paths.specs.Frames.{Increasing}
-use Rattle.paths.specs.Anchors.{Anchor, kept}
+use Rattle.paths.specs.Anchors.{Anchor, kept, rowOr}
 use Rattle.paths.specs.Units.{fitsUnit, mayHold, admitsUnit}
-use Rattle.paths.specs.LookAhead.{firstAhead, secondAhead, rowAhead, rowOr}
+use Rattle.paths.specs.LookAhead.{firstAhead, secondAhead, rowAhead}
 use Rattle.paths.specs.StageProblem.{boundary}
-use Rattle.paths.specs.Marks.{Bounds}
+use Rattle.paths.specs.Path.{Bounds}
 use Rattle.paths.proofs.Rising.{Rising, kept-rising}
 use Rattle.paths.proofs.LookAhead.{holds-none, holds-one, holds-more}
 use Rattle.stages.specs.Tables.{beyond}
@@ -26,12 +26,12 @@ use Rattle.frames.specs.declared.span.Span.{Span}
 use Rattle.prepare.specs.Sides.{spanAhead}
 use Rattle.clip.specs.Clip.{anchored, unanchored, given}
 use Rattle.entries.specs.Entry.{noRow}
-use Rattle.decoding.specs.Report.{lowEdge, highEdge, rowSpan, heldBy, placedBy, placed}
+use Rattle.decoding.specs.Report.{lowEdge, highEdge, rowSpan, heldBy, placedBy, placedUnit}
 use Rattle.decoding.proofs.Admitted.{UnitOk}
 use Rattle.decode.specs.declared.report.PlacedUnit.{PlacedUnit}
 use Rattle.decode.specs.Places.{placeOf}
 
--- what a unit is placed as, by the anchors that it holds
+-- what a unit is placedUnit as, by the anchors that it holds
 abbrev pub placeFor : Phrase → Stage → Bounds → List Anchor → PlacedUnit
 placeFor phrase stage unit anchors =
     let span = given (placedBy phrase stage unit anchors) in
@@ -95,7 +95,7 @@ module _ (phrase : Phrase) (stage : Stage) (up : Increasing (stage .anchors)) (l
     pub told-by-row : rowAhead 0 (kept phrase stage) from < noRow →
         let place = placeIn phrase stage unit in
         let span : Span = record { start = place .start; end = place .end } in
-        cond (eqb (place .row) noRow) (unanchored span) (anchored span) ≡ placed phrase stage unit
+        cond (eqb (place .row) noRow) (unanchored span) (anchored span) ≡ placedUnit phrase stage unit
     unfolding placedBy
     told-by-row below =
         held-either (λ anchors.

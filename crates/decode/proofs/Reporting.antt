@@ -17,7 +17,7 @@ use Rattle.paths.specs.Frames.{Increasing}
 use Rattle.paths.specs.Anchors.{Anchor, kept}
 use Rattle.paths.specs.LookAhead.{rowAhead}
 use Rattle.paths.specs.StageProblem.{boundary}
-use Rattle.paths.specs.Marks.{Bounds}
+use Rattle.paths.specs.Path.{Bounds}
 use Rattle.stages.specs.Tables.{StageTables}
 use Rattle.stages.specs.Tables.{Tabled, beyond, tableAt, tablesIn}
 use Rattle.rows.specs.declared.trace.Units.{Units}
@@ -30,7 +30,7 @@ use Rattle.frames.specs.declared.span.Span.{Span}
 use Rattle.entries.specs.Entry.{noRow}
 use Rattle.decode.specs.declared.report.PlacedUnit.{PlacedUnit}
 use Rattle.decode.specs.declared.report.Reported.{Reported}
-use Rattle.decoding.specs.Report.{lowEdge, highEdge, heldBy, placed, reportedUnit, reportedIn}
+use Rattle.decoding.specs.Report.{lowEdge, highEdge, heldBy, placedUnit, reportedUnit, reportedIn}
 use Rattle.decode.specs.Places.{placeOf, placeAt, Placeable, placedList, ReportedAll, unitless, Holds}
 use Rattle.decoding.proofs.Units.{length-reported, length-reportedIn}
 use Rattle.decoding.proofs.Admitted.{UnitOk, noBounds}
@@ -147,12 +147,12 @@ module _ {phrase : Phrase} {stage : Stage} {strictness : Strictness} {words : Li
   place b = placeIn phrase stage b
 
   abbrev spans : List Span
-  spans = reported (map (placed phrase stage) bs)
+  spans = reported (map (placedUnit phrase stage) bs)
 
-  placed-is : placedList words units (length bs) ≡ map (placed phrase stage) bs
+  placed-is : placedList words units (length bs) ≡ map (placedUnit phrase stage) bs
   placed-is =
       ap (unitsFrom (column (λ p. p .start)) (column (λ p. p .end)) (column (λ p. p .row)) 0) (length-listed _ (length bs))
-      ∙ units-from _ _ _ (placed phrase stage) bs 0 (λ i h. (λ x. told (at (λ p. p .start) i h x) (at (λ p. p .end) i h x) (at (λ p. p .row) i h x))
+      ∙ units-from _ _ _ (placedUnit phrase stage) bs 0 (λ i h. (λ x. told (at (λ p. p .start) i h x) (at (λ p. p .end) i h x) (at (λ p. p .row) i h x))
       ∙ told-by-row phrase stage (f .up) (f .last) (f .ok i h) (f .rows _ (omega (arith, f .ok i h .forward, f .ok i h .inside))))
     where
       column : (PlacedUnit → ℕ) → List ℕ
@@ -165,7 +165,7 @@ module _ {phrase : Phrase} {stage : Stage} {strictness : Strictness} {words : Li
       told start end row = let span : Span = record { start = start; end = end } in cond (eqb row noRow) (unanchored span) (anchored span)
 
   spans-long : length spans ≡ length bs
-  spans-long = length-reported (map (placed phrase stage) bs) ∙ length-map bs (placed phrase stage)
+  spans-long = length-reported (map (placedUnit phrase stage) bs) ∙ length-map bs (placedUnit phrase stage)
 
   -- an array of one figure of each span
   module _ (figure : Span → ℕ) (none : figure noSpan ≡ 0) {numbers : List ℕ} (e : numbers ≡ padded (map figure (reported (placedList words units (length bs)))) 16 0) where

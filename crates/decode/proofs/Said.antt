@@ -4,10 +4,9 @@ use mathlib.Core.Path.{_≡_, refl}
 use native.Mathlib.Omega.{arith}
 use lib.Ieee.{Float}
 use Rattle.paths.specs.declared.passes.Pass.{Pass}
-use Rattle.paths.specs.Path.{Path}
+use Rattle.paths.specs.Path.{Path, unitsOf}
 use Rattle.paths.specs.Demand as D
 use Rattle.paths.specs.Demand.{Answer}
-use Rattle.paths.specs.Marks.{unitsOf}
 use Rattle.rows.specs.Traced.{UnitsAre}
 use Rattle.closed.specs.declared.search.Answer.the-variants.{Found, None, Unvoiced}
 use Rattle.closed.specs.declared.search.Searched.{Searched}

@@ -13,13 +13,12 @@ use Rattle.phrase.specs.Phrase.{Phrase, Candidate}
 use Rattle.paths.specs.declared.passes.Strictness.{Strictness}
 use Rattle.paths.specs.declared.passes.Pass.{Pass}
 use Rattle.paths.specs.declared.passes.Pass.the-variants.{NucleiStrict, CountStrict, CountRelaxed, NucleiRelaxed}
-use Rattle.paths.specs.Path.{Path, count, Admitted}
+use Rattle.paths.specs.Path.{Path, count, Admitted, unitsOf}
 use Rattle.paths.specs.Passes.{ofPass, passStage, passStrictness, passProblem, inOrder}
 use Rattle.paths.specs.Demand as D
 use Rattle.paths.specs.Demand.{Answer, answerNumber}
 use Rattle.paths.specs.Search.{chosen}
 use Rattle.paths.specs.StageProblem.{problemOf}
-use Rattle.paths.specs.Marks.{unitsOf}
 use Rattle.paths.proofs.PathUnits.{units-count, units-in-order}
 use Rattle.stages.specs.Tables.{beyond}
 use Rattle.rows.specs.declared.trace.Units.{Units}
@@ -48,7 +47,7 @@ use Rattle.decode.specs.declared.entry.Scored.{Scored}
 use Rattle.decoding.specs.Report.{lowEdge, highEdge, reportedIn, reportedUnits}
 use Rattle.decoding.specs.EntryOf.{missedBy, missedTotal, missedUnits, totalOf, unitsFor, entryFor, entryBy, entryOf}
 use Rattle.decode.specs.Places.{Placeable, ReportedAll, missedAt, Holds}
-use Rattle.decode.specs.Plans.{PlanOf, Worded}
+use Rattle.decode.specs.Plans.{PlanOf, LentWords}
 use Rattle.decode.specs.Scored.{MissedEntry, ScoredAs}
 use Rattle.decoding.proofs.Demands.{answered}
 use Rattle.decoding.proofs.Units.{length-reportedIn}
@@ -93,7 +92,7 @@ module _ {bytes : List ℕ} {at : Layout} (h : Laid bytes at) where
         ok = each-ok phrase stage strictness columns (units-in-order admitted);
       }
 
-  module _ {plan : Plan} (planned : PlanOf phrase plan) {words addedWords : List ℕ} (worded : Worded phrase words addedWords) {candidate : ℕ} (below : candidate < length (phrase .candidates)) where
+  module _ {plan : Plan} (planned : PlanOf phrase plan) {words addedWords : List ℕ} (worded : LentWords phrase words addedWords) {candidate : ℕ} (below : candidate < length (phrase .candidates)) where
     abbrev chosenOne : Candidate
     chosenOne = candidateOf phrase candidate
 

@@ -9,7 +9,7 @@ use Rattle.laws.specs.Listed.{padded, listed, tableOf}
 use Rattle.entries.specs.Entry.{ReportedUnit, noRow}
 use Rattle.entries.specs.EntryFrom.{unitAt}
 use Rattle.clip.specs.Clip.{Placed, reported, startsOf, endsOf}
-use Rattle.clip.specs.Units.{unitsOf}
+use Rattle.clip.specs.Units.{placedFrom}
 use Rattle.rows.specs.declared.trace.Units.{Units}
 use Rattle.decode.specs.declared.report.PlacedUnit.{PlacedUnit}
 use Rattle.decode.specs.declared.report.Reported.{Reported}
@@ -43,7 +43,7 @@ pub record PlacedAll (words : List ℕ) (units : Units) (k : ℕ) (r : Reported)
 -- the first k units, as they stand before clipping
 abbrev pub placedList : List ℕ → Units → ℕ → List Placed
 placedList words units k =
-    unitsOf (listed (λ i. placeAt words units i .start) k) (listed (λ i. placeAt words units i .end) k) (listed (λ i. placeAt words units i .row) k)
+    placedFrom (listed (λ i. placeAt words units i .start) k) (listed (λ i. placeAt words units i .end) k) (listed (λ i. placeAt words units i .row) k)
 
 pub record ReportedAll (words : List ℕ) (units : Units) (k : ℕ) (r : Reported) : Type 0 where
   pub starts : r .starts ≡ padded (startsOf (reported (placedList words units k))) 16 0

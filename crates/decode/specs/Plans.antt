@@ -6,7 +6,12 @@ use mathlib.Core.Path.{_≡_}
 use lib.Ieee.{Float}
 use Rattle.phrase.specs.Phrase.{Phrase}
 use Rattle.paths.specs.Passes.{nonEmpty}
+use Rattle.record.specs.declared.layout.Layout.{Layout}
+use Rattle.record.specs.Edition.{edition1}
+use Rattle.record.specs.Accepted.{Laid}
+use Rattle.record.specs.Meaning.{phraseOf}
 use Rattle.closed.specs.Answered.{RunsOf}
+use Rattle.closed.specs.Asked.{Unused}
 use Rattle.prepare.specs.Sides.{Prepared}
 use Rattle.decode.specs.declared.plan.Plan.{Plan}
 use Rattle.decoding.specs.Report.{lowEdge, highEdge}
@@ -28,7 +33,14 @@ pub record Lends (phrase : Phrase) (words : List ℕ) (figures : List Float) (ad
   pub added : nonEmpty (phrase .added .anchors) ≡ true → Prepared phrase (phrase .added) (lowEdge (phrase .speech)) (highEdge (phrase .speech)) addedWords addedFigures
 
 -- the words alone
-pub record Worded (phrase : Phrase) (words addedWords : List ℕ) : Type 0 where
+pub record LentWords (phrase : Phrase) (words addedWords : List ℕ) : Type 0 where
   pub figures : List Float
   pub addedFigures : List Float
   pub lent : Lends phrase words figures addedWords addedFigures
+
+-- What every candidate of an accepted record is decoded with: what was looked up, the lists of its stages, and unused work areas.
+pub record Readied (bytes : List ℕ) (at : Layout) (plan : Plan) (words : List ℕ) (figures : List Float) (addedWords : List ℕ) (addedFigures best : List Float) (back : List ℕ) : Type 0 where
+  pub laid : Laid bytes at
+  pub planned : PlanOf (phraseOf bytes) plan
+  pub lent : Lends (phraseOf bytes) words figures addedWords addedFigures
+  pub unused : Unused best back (edition1 .«work_cells»)

@@ -20,7 +20,8 @@ ghost use mathlib.Core.Path.{_≡_};
 ghost use Prim.Native.Nat.{_+_, _*_, _≤_, _<_};
 ghost use lib.ListN.{length, drop};
 ghost use Rattle.closed.specs.Answered.{Says};
-ghost use Rattle.closed.specs.Asked.{columnsOf, Unused};
+ghost use Rattle.closed.specs.Asked.{columnsOf};
+ghost use Rattle.entries.specs.Entry.{Entry};
 ghost use Rattle.entries.specs.Placing.{Inserted};
 ghost use Rattle.entries.specs.Ranking.{ranked};
 ghost use Rattle.entries.specs.Words.{allWords};
@@ -31,7 +32,7 @@ ghost use Rattle.record.specs.Meaning.{phraseOf};
 ghost use Rattle.record.specs.Accepted.{Laid};
 ghost use Rattle.record.specs.Reading.{candidateOf};
 ghost use Rattle.decoding.specs.EntryOf.{entryOf, entriesOf};
-ghost use Rattle.decode.specs.Plans.{PlanOf, Worded, Lends};
+ghost use Rattle.decode.specs.Plans.{PlanOf, LentWords, Readied};
 ghost use Rattle.decode.specs.Scored.{MissedEntry, ScoredAs};
 
 // An entry, not yet at its rank. Its units are the first of `units`.
@@ -81,7 +82,7 @@ fn score_candidate<'a>(
     requires { ⌜ candidate < length (phraseOf (now bytes) .candidates) ⌝ }
     requires { ⌜ PlanOf (phraseOf (now bytes)) plan ⌝ }
     requires { ⌜ Says (chosen (phraseOf (now bytes)) (columnsOf (now bytes) candidate)) searched ⌝ }
-    requires { ⌜ Worded (phraseOf (now bytes)) (now words) (now «added_words») ⌝ }
+    requires { ⌜ LentWords (phraseOf (now bytes)) (now words) (now «added_words») ⌝ }
     ensures { λ r. ⌜ ScoredAs (entryOf (phraseOf (now (bytes .entry))) (candidateOf (phraseOf (now (bytes .entry))) candidate)) r ⌝ }
 {
     let id = read::id(bytes, at, candidate);
@@ -106,6 +107,18 @@ fn score_candidate<'a>(
     }
 }
 
+// An entry goes to its rank among the `number` that are there.
+fn insert_scored(out: &mut [u32], number: usize, entry: Scored)
+    requires { ⌜ ((number + 1) * edition1 .«entry_words» ≤ length (now out)) × ((e : Entry) × ScoredAs e entry) ⌝ }
+    ensures { λ _. ⌜ ((e : Entry) → ScoredAs e entry → Inserted (edition1 .units) number e (now (out .entry)) (now (out .exit))) ⌝ }
+{
+    let units = entry.units;
+    let starts = units.starts;
+    let ends = units.ends;
+    let rows = units.rows;
+    insert_entry(out, number, entry.head, &starts, &ends, &rows);
+}
+
 // One more candidate: its entry goes to its rank among those before it. The work areas end as they came.
 fn put_candidate<'a>(
     best: &mut [f64],
@@ -120,12 +133,8 @@ fn put_candidate<'a>(
     number: usize,
     out: &mut [u32],
 )
-    requires { ⌜ Laid (now bytes) at ⌝ }
-    requires { ⌜ number < length (phraseOf (now bytes) .candidates) ⌝ }
-    requires { ⌜ PlanOf (phraseOf (now bytes)) plan ⌝ }
-    requires { ⌜ Lends (phraseOf (now bytes)) (now words) (now figures) (now «added_words») (now «added_figures») ⌝ }
-    requires { ⌜ Unused (now best) (now back) (edition1 .«work_cells») ⌝ }
-    requires { ⌜ (number + 1) * edition1 .«entry_words» ≤ length (now out) ⌝ }
+    requires { ⌜ Readied (now bytes) at plan (now words) (now figures) (now «added_words») (now «added_figures») (now best) (now back) ⌝ }
+    requires { ⌜ (number < length (phraseOf (now bytes) .candidates)) × ((number + 1) * edition1 .«entry_words» ≤ length (now out)) ⌝ }
     ensures { λ _. ⌜ Inserted (edition1 .units) number (entryOf (phraseOf (now (bytes .entry))) (candidateOf (phraseOf (now (bytes .entry))) number)) (now (out .entry)) (now (out .exit)) ⌝ }
     ensures { λ _. ⌜ (now (best .exit) ≡ now (best .entry)) × (now (back .exit) ≡ now (back .entry)) ⌝ }
 {
@@ -147,11 +156,7 @@ fn put_candidate<'a>(
         plan.runs,
     );
     let entry = score_candidate(bytes, at, plan, number, searched, words, added_words);
-    let units = entry.units;
-    let starts = units.starts;
-    let ends = units.ends;
-    let rows = units.rows;
-    insert_entry(out, number, entry.head, &starts, &ends, &rows);
+    insert_scored(out, number, entry);
 }
 
 // Every candidate of the record, in its order.
@@ -167,10 +172,7 @@ pub fn put_candidates<'a>(
     added_figures: &'a [f64],
     out: &mut [u32],
 )
-    requires { ⌜ Laid (now bytes) at ⌝ }
-    requires { ⌜ PlanOf (phraseOf (now bytes)) plan ⌝ }
-    requires { ⌜ Lends (phraseOf (now bytes)) (now words) (now figures) (now «added_words») (now «added_figures») ⌝ }
-    requires { ⌜ Unused (now best) (now back) (edition1 .«work_cells») ⌝ }
+    requires { ⌜ Readied (now bytes) at plan (now words) (now figures) (now «added_words») (now «added_figures») (now best) (now back) ⌝ }
     requires { ⌜ length (phraseOf (now bytes) .candidates) * edition1 .«entry_words» ≤ length (now out) ⌝ }
     ensures { λ _. ⌜ now (out .exit) ≡ allWords (edition1 .units) (ranked (entriesOf (phraseOf (now (bytes .entry))))) ++ drop (length (phraseOf (now (bytes .entry)) .candidates) * edition1 .«entry_words») (now (out .entry)) ⌝ }
     ensures { λ _. ⌜ (now (best .exit) ≡ now (best .entry)) × (now (back .exit) ≡ now (back .entry)) ⌝ }

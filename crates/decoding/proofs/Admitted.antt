@@ -12,7 +12,7 @@ use Rattle.paths.specs.declared.passes.Strictness.{Strictness}
 use Rattle.paths.specs.Anchors.{kept}
 use Rattle.paths.specs.Units.{admitsUnit}
 use Rattle.paths.specs.StageProblem.{boundary, problemOf}
-use Rattle.paths.specs.Marks.{Bounds}
+use Rattle.paths.specs.Path.{Bounds}
 use Rattle.paths.proofs.PathUnits.{InOrder, no-units, later-end, one-more}
 
 -- a unit that a stage admits, in a strict or a relaxed pass

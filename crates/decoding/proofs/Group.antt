@@ -17,7 +17,7 @@ use Rattle.paths.specs.Anchors.{Anchor, keptIn}
 use Rattle.paths.specs.Units.{admitsUnit}
 use Rattle.paths.specs.StageProblem.{cost, unitValueOf}
 use Rattle.paths.specs.Passes.{hasNucleus}
-use Rattle.paths.specs.Marks.{unitsOf}
+use Rattle.paths.specs.Path.{unitsOf}
 use Rattle.paths.specs.Search.{chosen}
 use Rattle.frames.specs.Outcome.{accepted}
 use Rattle.frames.specs.Frames.{highestBelow, lowestFrom}

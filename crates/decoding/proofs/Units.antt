@@ -7,11 +7,11 @@ use lib.ListN.{length, length-map, length-replicate}
 use Rattle.frames.specs.declared.span.Span.{Span}
 use Rattle.clip.specs.Clip.{Placed, reported, reportAfter}
 use Rattle.phrase.specs.Phrase.{Phrase, Stage}
-use Rattle.paths.specs.Marks.{Bounds, unitsOf}
+use Rattle.paths.specs.Path.{Bounds, unitsOf}
 use Rattle.paths.specs.Anchors.{Anchor}
 use Rattle.paths.specs.Demand.{Answer, Demanded, a-path, no-path, no-nucleus}
 use Rattle.paths.proofs.PathUnits.{units-count}
-use Rattle.decoding.specs.Report.{heldBy, placed, reportedUnit, reportedIn}
+use Rattle.decoding.specs.Report.{heldBy, placedUnit, reportedUnit, reportedIn}
 use Rattle.decoding.specs.EntryOf.{unitsFor}
 
 length-reportAfter : (low : ℕ) (units : List Placed) → length (reportAfter low units) ≡ length units
@@ -34,7 +34,7 @@ length-zip held (unit ∷ units) (span ∷ spans) e = ap suc (length-zip held un
 pub length-reportedIn : (phrase : Phrase) (stage : Stage) (units : List Bounds) → length (reportedIn phrase stage units) ≡ length units
 unfolding reportedIn
 length-reportedIn phrase stage units =
-    length-zip (heldBy phrase stage) units _ (length-reported (map (placed phrase stage) units) ∙ length-map units (placed phrase stage))
+    length-zip (heldBy phrase stage) units _ (length-reported (map (placedUnit phrase stage) units) ∙ length-map units (placedUnit phrase stage))
 
 pub length-units : {phrase : Phrase} {columns : List ℕ} {answer : Answer} → Demanded phrase columns answer
     → length (unitsFor phrase (length columns) answer) ≡ length columns

@@ -5,11 +5,9 @@ use Prim.Native.Nat.{ℕ}
 use mathlib.Core.List.{List, [], _∷_, map, zipWith}
 use Rattle.phrase.specs.Phrase.{Phrase, Stage, Speech, silent, spoken}
 use Rattle.paths.specs.declared.passes.Pass.{Pass}
-use Rattle.paths.specs.Path.{Path}
-use Rattle.paths.specs.Marks.{Bounds, unitsOf}
-use Rattle.paths.specs.Anchors.{Anchor, kept, heldIn}
+use Rattle.paths.specs.Path.{Path, Bounds, unitsOf}
+use Rattle.paths.specs.Anchors.{Anchor, kept, heldIn, rowOr}
 use Rattle.paths.specs.StageProblem.{boundary}
-use Rattle.paths.specs.LookAhead.{rowOr}
 use Rattle.paths.specs.Passes.{passStage}
 use Rattle.spans.specs.Spans.{spanOf}
 use Rattle.frames.specs.declared.span.Span.{Span}
@@ -45,8 +43,8 @@ unfolding rowSpan
 placedBy phrase stage unit [] = unanchored (pathSpan stage unit)
 placedBy phrase stage unit (anchor ∷ more) = anchored (rowSpan phrase stage (anchor .frame))
 
-abbrev pub placed : Phrase → Stage → Bounds → Placed
-placed phrase stage unit = placedBy phrase stage unit (heldBy phrase stage unit)
+abbrev pub placedUnit : Phrase → Stage → Bounds → Placed
+placedUnit phrase stage unit = placedBy phrase stage unit (heldBy phrase stage unit)
 
 -- a reported span with the row of the anchor that the unit holds
 abbrev pub reportedUnit : List Anchor → Span → ReportedUnit
@@ -55,7 +53,7 @@ reportedUnit anchors span = record { start = span .start; end = span .end; row =
 -- the units of a stage, reported
 unfoldable pub reportedIn : Phrase → Stage → List Bounds → List ReportedUnit
 unfolding heldIn placedBy reported
-reportedIn phrase stage units = zipWith reportedUnit (map (heldBy phrase stage) units) (reported (map (placed phrase stage) units))
+reportedIn phrase stage units = zipWith reportedUnit (map (heldBy phrase stage) units) (reported (map (placedUnit phrase stage) units))
 
 -- the units of a path that a pass found, by "its own stage's boundaries"
 abbrev pub reportedUnits : Phrase → Pass → Path → List ReportedUnit

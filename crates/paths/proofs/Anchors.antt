@@ -9,7 +9,7 @@ use native.Mathlib.Omega.{arith}
 use lib.Dec.{leb, ltb, leb→le, le→leb, ltb→lt, lt→ltb, nltb→le}
 use lib.ListN.{length}
 use lib.Ieee.Fits.{and-i, and-l, and-r}
-use Rattle.paths.specs.Frames.{within}
+use Rattle.paths.specs.Frames.{withinMask}
 use Rattle.paths.specs.Anchors.{Anchor, numbered, keptIn, heldIn}
 use borrow.Author.Tests.{le-leb, lt-leb, lt-ltb, le-ltb}
 use Rattle.laws.proofs.Tests.{by-test, same-test, and-same}
@@ -75,7 +75,7 @@ heldIn-clamped mask row frames from to =
     ∙ sym (select-select inMask plain (numbered row frames))
   where
     inMask : Anchor → Bool
-    inMask anchor = within mask (anchor .frame)
+    inMask anchor = withinMask mask (anchor .frame)
 
     clamped : Anchor → Bool
     clamped anchor = leb (min from (length mask)) (anchor .frame) && ltb (anchor .frame) (min to (length mask))

@@ -17,7 +17,7 @@ use Rattle.paths.specs.Path.{Path, sum, Best, NoPath}
 use Rattle.paths.specs.Cell.{Cell, empty, held}
 use Rattle.paths.specs.Passes.{passProblem, speaks, hasNucleus, inOrder, passes}
 use Rattle.paths.specs.Demand.{Answer, found, none, unvoiced, Admits, AdmitsNone, FirstOf, here, after, Each, all-done, each-of, Found, Demanded, a-path, no-path, no-nucleus}
-use Rattle.paths.specs.Search.{Rule, orElse, searchBy}
+use Rattle.paths.specs.Search.{PathRule, orElse, searchBy}
 use Rattle.paths.specs.Finite.{Finite}
 use Rattle.paths.proofs.Optimal.{best-sums-equal}
 
@@ -84,7 +84,7 @@ pub data Picked (q : Problem) (k : ℕ) : Cell Path → Type 0 where
   picked : {path : Path} → Best q k path → Picked q k (held path)
   nothing : NoPath q k → Picked q k empty
 
-module _ (rule : Rule) (phrase : Phrase) (columns : List ℕ) where
+module _ (rule : PathRule) (phrase : Phrase) (columns : List ℕ) where
   abbrev problem : Pass → Problem
   problem pass = passProblem phrase pass columns
 

@@ -14,10 +14,10 @@ use Rattle.phrase.specs.Phrase.{Phrase, Stage}
 use Rattle.paths.specs.declared.passes.Strictness.{Strictness}
 use Rattle.paths.specs.declared.passes.Strictness.the-variants.{Strict, Relaxed}
 use Rattle.paths.specs.Frames.{Increasing}
-use Rattle.paths.specs.Anchors.{Anchor, select, kept, heldIn}
+use Rattle.paths.specs.Anchors.{Anchor, select, kept, heldIn, rowOr}
 use Rattle.paths.specs.Units.{longestUnit, fitsUnit, mayHold, admitsUnit}
 use Rattle.paths.specs.StageProblem.{scoreOf, boundary, problemOf}
-use Rattle.paths.specs.LookAhead.{ahead, frameOr, rowOr, firstAhead, secondAhead, rowAhead, takenIn}
+use Rattle.paths.specs.LookAhead.{ahead, frameOr, firstAhead, secondAhead, rowAhead, takenIn}
 use Rattle.laws.proofs.Tests.{by-test}
 use Rattle.paths.proofs.Frames.{increasing-le}
 use Rattle.paths.proofs.Select.{select-select}

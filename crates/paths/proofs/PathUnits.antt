@@ -7,8 +7,7 @@ use mathlib.Core.List.{List, [], _∷_, _++_}
 use lib.Dec.{T}
 use lib.ListN.{length, length-append}
 use Rattle.paths.specs.Problem.{Problem}
-use Rattle.paths.specs.Path.{Path, begin, gap, unit, end, count, Admitted, begins, gaps, units}
-use Rattle.paths.specs.Marks.{Bounds, unitsOf}
+use Rattle.paths.specs.Path.{Path, begin, gap, unit, end, count, Admitted, begins, gaps, units, Bounds, unitsOf}
 
 pub units-count : (p : Path) → length (unitsOf p) ≡ count p
 unfolding unitsOf count

@@ -6,7 +6,7 @@ use native.Mathlib.Nat.{le-trans}
 use native.Mathlib.Omega.{arith}
 use lib.ListN.{length, getD}
 use Rattle.laws.proofs.Tests.{by-choice}
-use Rattle.paths.specs.Frames.{Increasing, within}
+use Rattle.paths.specs.Frames.{Increasing, withinMask}
 use Rattle.paths.specs.Anchors.{Anchor, select, numbered, keptIn}
 
 -- anchors from a frame on, in strictly increasing order
@@ -34,4 +34,4 @@ rising-numbered low row (frame ∷ frames) h increasing =
 pub kept-rising : (mask : List ℕ) (row : ℕ) (frames : List ℕ) → Increasing frames → Rising 0 (keptIn mask row frames)
 unfolding keptIn
 kept-rising mask row frames increasing =
-    rising-select (λ anchor. within mask (anchor .frame)) (rising-numbered 0 row frames (λ more. omega arith) increasing)
+    rising-select (λ anchor. withinMask mask (anchor .frame)) (rising-numbered 0 row frames (λ more. omega arith) increasing)

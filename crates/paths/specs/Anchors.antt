@@ -5,7 +5,7 @@ use mathlib.Core.Bool.{Bool, cond, _&&_}
 use mathlib.Core.List.{List, [], _∷_}
 use lib.Dec.{leb, ltb}
 use Rattle.phrase.specs.Phrase.{Phrase, Stage}
-use Rattle.paths.specs.Frames.{within}
+use Rattle.paths.specs.Frames.{withinMask}
 
 pub record Anchor : Type 0 where
   pub frame : ℕ
@@ -23,8 +23,8 @@ numbered row (frame ∷ frames) = record { frame = frame; row = row } ∷ number
 
 -- "Nuclei and anchors outside the mask are dropped." The others keep their rows.
 unfoldable pub keptIn : List ℕ → ℕ → List ℕ → List Anchor
-unfolding select numbered within
-keptIn mask firstRow frames = select (λ anchor. within mask (anchor .frame)) (numbered firstRow frames)
+unfolding select numbered withinMask
+keptIn mask firstRow frames = select (λ anchor. withinMask mask (anchor .frame)) (numbered firstRow frames)
 
 abbrev pub kept : Phrase → Stage → List Anchor
 kept phrase stage = keptIn (phrase .mask) (stage .firstRow) (stage .anchors)
@@ -34,3 +34,8 @@ kept phrase stage = keptIn (phrase .mask) (stage .firstRow) (stage .anchors)
 unfoldable pub heldIn : List Anchor → ℕ → ℕ → List Anchor
 unfolding select
 heldIn anchors from to = select (λ anchor. leb from (anchor .frame) && ltb (anchor .frame) to) anchors
+
+-- the row of the first of a list of anchors, or a word for none
+abbrev pub rowOr : ℕ → List Anchor → ℕ
+rowOr row [] = row
+rowOr row (anchor ∷ more) = anchor .row

@@ -10,8 +10,8 @@ abbrev pub Increasing : List ℕ → Type 0
 Increasing frames = (i : ℕ) → suc i < length frames → getD frames i 0 < getD frames (suc i) 0
 
 -- "A frame is within the record's mask if it is below F and its byte is not 0."
-unfoldable pub within : List ℕ → ℕ → Bool
-within mask frame = ltb frame (length mask) && not (eqb (getD mask frame 0) 0)
+unfoldable pub withinMask : List ℕ → ℕ → Bool
+withinMask mask frame = ltb frame (length mask) && not (eqb (getD mask frame 0) 0)
 
 -- What a frame adds to a speech count, by its mask byte: "1 for speech".
 unfoldable pub weight : ℕ → ℕ

@@ -4,21 +4,17 @@ use Prim.Native.Nat.{ℕ}
 use mathlib.Core.Bool.{cond}
 use mathlib.Core.List.{List, [], _∷_, tail}
 use lib.Dec.{leb}
-use Rattle.paths.specs.Anchors.{Anchor, select}
+use Rattle.paths.specs.Anchors.{Anchor, select, rowOr}
 
 -- the anchors at or after a frame
 unfoldable pub ahead : List Anchor → ℕ → List Anchor
 unfolding select
 ahead anchors from = select (λ anchor. leb from (anchor .frame)) anchors
 
--- the frame and the row of the first of a list of anchors; where it is empty, a frame that no boundary passes, and any row
+-- the frame of the first of a list of anchors; where it is empty, one that no boundary passes
 abbrev pub frameOr : ℕ → List Anchor → ℕ
 frameOr beyond [] = beyond
 frameOr beyond (anchor ∷ more) = anchor .frame
-
-abbrev pub rowOr : ℕ → List Anchor → ℕ
-rowOr row [] = row
-rowOr row (anchor ∷ more) = anchor .row
 
 unfoldable pub firstAhead : ℕ → List Anchor → ℕ → ℕ
 unfolding ahead

@@ -4,7 +4,7 @@ use mathlib.Core.Path.{_≡_}
 use mathlib.Core.List.{List, [], _∷_, _++_}
 use lib.Ieee.{Float, binary64, add, sub, lt}
 use Rattle.paths.specs.Problem.{Problem}
-use Rattle.paths.specs.Path.{Path, begin, gap, unit, end, value, sum}
+use Rattle.paths.specs.Path.{Path, begin, gap, unit, end, value, sum, Bounds}
 use Rattle.paths.specs.Cell.{Cell, empty, held, best, carry}
 use Rattle.paths.specs.CellRule.{Keeping}
 
@@ -50,18 +50,6 @@ unfolding best carry
 chosenEnd q row =
     best (λ a b. lt (a .sum) (b .sum)) (q .size)
     (λ j. carry (λ a. record { sum = sub binary64 (a .value) (q .stopCost j); at = j }) (row j))
-
--- The boundaries where a unit begins and ends.
-pub record Bounds : Type 0 where
-  pub first : ℕ
-  pub last : ℕ
-
--- The units of a path, in path order.
-unfoldable pub unitsOf : Path → List Bounds
-unfolding end
-unitsOf (begin j) = []
-unitsOf (gap p) = unitsOf p
-unitsOf (unit p j) = unitsOf p ++ (record { first = end p; last = j } ∷ [])
 
 -- What the marks lead back to from the cell of s units and boundary j: the units of a path, in path order. `mark s j` is that cell's.
 pub data Traces (mark : ℕ → ℕ → ℕ) : ℕ → ℕ → List Bounds → Type 0 where

@@ -2,6 +2,7 @@
 -- at its end, so "each step and the end applied in path order, each addition or subtraction rounded once to f64" is the definition itself.
 use Prim.Native.Nat.{ℕ, zero, suc, _<_}
 use mathlib.Core.Path.{_≡_}
+use mathlib.Core.List.{List, [], _∷_, _++_}
 use lib.Dec.{T}
 use lib.Ieee.{Float, binary64, add, sub, le}
 use Rattle.paths.specs.Problem.{Problem}
@@ -23,6 +24,18 @@ unfoldable pub count : Path → ℕ
 count (begin j) = zero
 count (gap p) = count p
 count (unit p j) = suc (count p)
+
+-- The boundaries where a unit begins and ends.
+pub record Bounds : Type 0 where
+  pub first : ℕ
+  pub last : ℕ
+
+-- The units of a path, "in path order".
+unfoldable pub unitsOf : Path → List Bounds
+unfolding end
+unitsOf (begin j) = []
+unitsOf (gap p) = unitsOf p
+unitsOf (unit p j) = unitsOf p ++ (record { first = end p; last = j } ∷ [])
 
 -- "A start, then any number of gaps and units, none too, each from where the last step ended [..]; every unit is as the pass's
 -- strictness asks, and nothing else is barred."

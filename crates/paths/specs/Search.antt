@@ -14,8 +14,8 @@ use Rattle.paths.specs.Passes.{passProblem, hasNucleus, passes}
 use Rattle.paths.specs.Demand.{Answer, found, none, unvoiced}
 
 -- a rule that picks a path of a problem for a unit count, where it has one
-abbrev pub Rule : Type 0
-Rule = Problem → ℕ → Cell Path
+abbrev pub PathRule : Type 0
+PathRule = Problem → ℕ → Cell Path
 
 -- the path picked in a pass, with its sum, or else what the later passes give
 abbrev pub orElse : Pass → Problem → Cell Path → Answer → Answer
@@ -23,7 +23,7 @@ orElse pass problem empty later = later
 orElse pass problem (held path) later = found pass path (sum problem path)
 
 -- the answer from the passes listed, by a rule for the single pass; with none left, "no path"
-unfoldable pub searchBy : Rule → Phrase → List ℕ → List Pass → Answer
+unfoldable pub searchBy : PathRule → Phrase → List ℕ → List Pass → Answer
 searchBy rule phrase columns [] = cond (hasNucleus phrase) none unvoiced
 searchBy rule phrase columns (pass ∷ others) =
     let later = searchBy rule phrase columns others in

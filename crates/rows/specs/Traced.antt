@@ -3,7 +3,8 @@ use Prim.Native.Nat.{ℕ, _+_, _-_, _*_}
 use mathlib.Core.List.{List, _++_, map}
 use mathlib.Core.Path.{_≡_}
 use lib.ListN.{length, getD, replicate}
-use Rattle.paths.specs.Marks.{Bounds, Traces}
+use Rattle.paths.specs.Marks.{Traces}
+use Rattle.paths.specs.Path.{Bounds}
 use Rattle.rows.specs.declared.trace.Units.{Units}
 
 -- the mark of the cell of s units and boundary j, in rows of n

@@ -3,7 +3,8 @@
 ghost use mathlib.Core.List.{List};
 ghost use Prim.Native.Nat.{_+_, _*_, _≤_, _<_, _^_, suc};
 ghost use lib.ListN.{length};
-ghost use Rattle.paths.specs.Marks.{Bounds, Traces};
+ghost use Rattle.paths.specs.Marks.{Traces};
+ghost use Rattle.paths.specs.Path.{Bounds};
 ghost use Rattle.rows.specs.Traced.{markIn, Traceable, UnitsAre};
 
 // The boundaries where each unit of a path begins and ends, in path order; entries from the unit count on are 0.

@@ -12,7 +12,7 @@ use Rattle.laws.proofs.Numbers.{by-order}
 use Rattle.laws.proofs.Choices.{and-left}
 use Rattle.laws.proofs.Listed.{padded-in, padded-out}
 use Rattle.laws.specs.Listed.{padded}
-use Rattle.paths.specs.Frames.{Increasing, within}
+use Rattle.paths.specs.Frames.{Increasing, withinMask}
 use Rattle.paths.specs.Anchors.{Anchor, select, numbered, keptIn, heldIn}
 use Rattle.paths.specs.LookAhead.{ahead}
 use Rattle.stages.specs.Kept.{framesOf}
@@ -92,8 +92,8 @@ all-below (anchor ∷ anchors) end bound below h =
     one-counted (anchor .frame) bound _ (omega (arith, below .0)) ∙ ap suc (all-below anchors end bound (below .1) h)
 
 -- A frame within the mask is below its end.
-within-below : (mask : List ℕ) (frame : ℕ) → within mask frame ≡ true → frame < length mask
-unfolding within
+within-below : (mask : List ℕ) (frame : ℕ) → withinMask mask frame ≡ true → frame < length mask
+unfolding withinMask
 within-below mask frame e = ltb-true frame (length mask) (and-left (ltb frame (length mask)) _ e)
 
 module _ (mask : List ℕ) where
@@ -102,7 +102,7 @@ module _ (mask : List ℕ) where
       → (frame < length mask → P (record { frame = frame; row = row } ∷ keptIn mask (suc row) frames)) → P (keptIn mask (suc row) frames)
       → P (keptIn mask row (frame ∷ frames))
   unfolding keptIn select numbered
-  kept-either P row frame frames kept dropped = go (within mask frame) (within-below mask frame)
+  kept-either P row frame frames kept dropped = go (withinMask mask frame) (within-below mask frame)
     where
       go : (b : Bool) → (b ≡ true → frame < length mask) → P (cond b (record { frame = frame; row = row } ∷ keptIn mask (suc row) frames) (keptIn mask (suc row) frames))
       go true below = kept (below refl)

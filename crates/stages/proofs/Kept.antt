@@ -11,7 +11,7 @@ use lib.ListN.{length, getD, take, set, replicate, length-append, length-map}
 use lib.Seq.{take-suc, length-take-le}
 use Rattle.laws.proofs.Listed.{padded-none, padded-more}
 use Rattle.laws.specs.Listed.{padded}
-use Rattle.paths.specs.Frames.{within}
+use Rattle.paths.specs.Frames.{withinMask}
 use Rattle.paths.specs.Passes.{nonEmpty}
 use Rattle.paths.specs.Anchors.{Anchor, select, numbered, keptIn}
 use Rattle.stages.specs.Room.{room}
@@ -39,20 +39,20 @@ numbered-last row (first ∷ frames) frame =
 -- the anchors kept of one listed frame more
 kept-last : (mask : List ℕ) (row : ℕ) (frames : List ℕ) (frame : ℕ)
     → keptIn mask row (frames ++ (frame ∷ []))
-    ≡ keptIn mask row frames ++ cond (within mask frame) (record { frame = frame; row = row + length frames } ∷ []) []
+    ≡ keptIn mask row frames ++ cond (withinMask mask frame) (record { frame = frame; row = row + length frames } ∷ []) []
 unfolding keptIn select numbered
 kept-last mask row frames frame =
-    ap (select (λ anchor. within mask (anchor .frame))) (numbered-last row frames frame)
-    ∙ select-append (λ anchor. within mask (anchor .frame)) (numbered row frames) _
+    ap (select (λ anchor. withinMask mask (anchor .frame))) (numbered-last row frames frame)
+    ∙ select-append (λ anchor. withinMask mask (anchor .frame)) (numbered row frames) _
 
 module _ (mask : List ℕ) (row : ℕ) (frames : List ℕ) (i : ℕ) (h : i < length frames) where
   one-more : keptIn mask row (take (i + 1) frames)
-      ≡ keptIn mask row (take i frames) ++ cond (within mask (getD frames i 0)) (record { frame = getD frames i 0; row = row + i } ∷ []) []
+      ≡ keptIn mask row (take i frames) ++ cond (withinMask mask (getD frames i 0)) (record { frame = getD frames i 0; row = row + i } ∷ []) []
   one-more =
       ap (λ (n : ℕ). keptIn mask row (take n frames)) (add-one i)
       ∙ ap (keptIn mask row) (take-suc frames i 0 h)
       ∙ kept-last mask row (take i frames) (getD frames i 0)
-      ∙ ap (λ (n : ℕ). keptIn mask row (take i frames) ++ cond (within mask (getD frames i 0)) (record { frame = getD frames i 0; row = row + n } ∷ []) [])
+      ∙ ap (λ (n : ℕ). keptIn mask row (take i frames) ++ cond (withinMask mask (getD frames i 0)) (record { frame = getD frames i 0; row = row + n } ∷ []) [])
       (length-take-le i frames (omega arith))
 
 map-last : (f : Anchor → ℕ) (anchors : List Anchor) (anchor : Anchor) → map f (anchors ++ (anchor ∷ [])) ≡ map f anchors ++ (f anchor ∷ [])
@@ -82,12 +82,12 @@ keeps-more anchors anchor count frames rows h k = record {
 -- One listed frame more, kept or dropped.
 module _ (mask : List ℕ) (first : ℕ) (listed : List ℕ) (i : ℕ) (h : i < length listed) (count : ℕ) (frames rows : List ℕ)
     (before : Keeps (keptIn mask first (take i listed)) count frames rows) where
-  pub keeps-it : count < room → within mask (getD listed i 0) ≡ true
+  pub keeps-it : count < room → withinMask mask (getD listed i 0) ≡ true
       → Keeps (keptIn mask first (take (i + 1) listed)) (count + 1) (set frames count (getD listed i 0)) (set rows count (first + i))
   keeps-it small e =
       rw (one-more mask first listed i h, e) (keeps-more (keptIn mask first (take i listed)) (record { frame = getD listed i 0; row = first + i }) count frames rows small before)
 
-  pub drops-it : within mask (getD listed i 0) ≡ false → Keeps (keptIn mask first (take (i + 1) listed)) count frames rows
+  pub drops-it : withinMask mask (getD listed i 0) ≡ false → Keeps (keptIn mask first (take (i + 1) listed)) count frames rows
   drops-it e = rw (one-more mask first listed i h, e, append-nil) before
 
 pub counted-some : (anchors : List Anchor) (count : ℕ) → count ≡ length anchors → not (eqb count 0) ≡ nonEmpty anchors

@@ -12,8 +12,8 @@ use Rattle.phrase.specs.declared.costs.Costs.{Costs}
 use Rattle.phrase.specs.Filler.{fillerCost}
 use Rattle.paths.proofs.Frames.{speechIn-split}
 use Rattle.paths.specs.Frames.{speechIn}
-use Rattle.paths.specs.Anchors.{Anchor, keptIn, heldIn}
-use Rattle.paths.specs.LookAhead.{ahead, frameOr, rowOr, firstAhead, secondAhead, rowAhead}
+use Rattle.paths.specs.Anchors.{Anchor, keptIn, heldIn, rowOr}
+use Rattle.paths.specs.LookAhead.{ahead, frameOr, firstAhead, secondAhead, rowAhead}
 use Rattle.stages.specs.Room.{most, edges, room}
 use Rattle.stages.specs.Tables.{beyond}
 use Rattle.stages.specs.Edges.{edge, speechBefore}

@@ -26,7 +26,7 @@ abbrev pub placeBefore : List ℕ → List ℕ → ℕ → ℕ
 placeBefore frames bounds j = countBelow frames (edge bounds beyond j)
 
 -- the kept anchors in arrays, and the place of each boundary among them
-pub record Placed (anchors : List Anchor) (bounds frames rows places : List ℕ) : Type 0 where
+pub record AnchorsPlaced (anchors : List Anchor) (bounds frames rows places : List ℕ) : Type 0 where
   pub framed : frames ≡ padded (framesOf anchors) room beyond
   pub rowed : rows ≡ padded (rowsOf anchors) room 0
   pub placed : places ≡ tableOf (placeBefore frames bounds) (length bounds + 1) edges 0

@@ -3,14 +3,14 @@
 ghost use mathlib.Core.Path.{_≡_};
 ghost use Prim.Native.Nat.{_+_, _<_, _≤_, _^_};
 ghost use lib.ListN.{length, replicate};
-ghost use Rattle.paths.specs.Frames.{Increasing, within as isWithin};
+ghost use Rattle.paths.specs.Frames.{Increasing, withinMask};
 ghost use Rattle.paths.specs.Anchors.{keptIn};
 ghost use Rattle.paths.specs.Passes.{nonEmpty};
 ghost use Rattle.stages.specs.Room.{most, edges, room};
 ghost use Rattle.laws.specs.Listed.{written};
 ghost use Rattle.stages.specs.Tables.{beyond};
 ghost use Rattle.stages.specs.Kept.{Keeps};
-ghost use Rattle.stages.specs.Places.{Climbs, countBelow, placeBefore, Placed};
+ghost use Rattle.stages.specs.Places.{Climbs, countBelow, placeBefore, AnchorsPlaced};
 ghost use Rattle.stages.specs.Parts.{Fit, FitList};
 
 // A frame that no boundary passes.
@@ -18,7 +18,7 @@ pub const BEYOND: u32 = 4294967295;
 
 // Whether a frame is within the mask.
 pub fn within(mask: &[u8], frame: u32) -> bool
-    ensures { λ r. ⌜ r ≡ isWithin (now (mask .entry)) frame ⌝ }
+    ensures { λ r. ⌜ r ≡ withinMask (now (mask .entry)) frame ⌝ }
 {
     let at = frame as usize;
     if at < mask.len() {
@@ -105,7 +105,7 @@ pub fn place_anchors(
 )
     requires { ⌜ Fit (now mask) (now bounds) × FitList (now anchors) × («first_row» + length (now anchors) < 2 ^ 32) ⌝ }
     requires { ⌜ (now frames ≡ replicate room beyond) × (now rows ≡ replicate room 0) × (now places ≡ replicate edges 0) ⌝ }
-    ensures { λ _. ⌜ Placed (keptIn (now (mask .entry)) «first_row» (now (anchors .entry))) (now (bounds .entry)) (now (frames .exit)) (now (rows .exit)) (now (places .exit)) ⌝ }
+    ensures { λ _. ⌜ AnchorsPlaced (keptIn (now (mask .entry)) «first_row» (now (anchors .entry))) (now (bounds .entry)) (now (frames .exit)) (now (rows .exit)) (now (places .exit)) ⌝ }
 {
     keep_anchors(mask, anchors, first_row, frames, rows);
     place_boundaries(frames, bounds, places);

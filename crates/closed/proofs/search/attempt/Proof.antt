@@ -1,14 +1,17 @@
 -- `closed::search::attempt` meets its contract. Assumes nothing.
 use mathlib.Core.List.{List}
+use mathlib.Core.Path.{subst⁻¹}
 use Prim.Native.Nat.{ℕ}
 use lib.ListN.{length}
 use Rattle.phrase.specs.Phrase.{Phrase}
 use Rattle.paths.specs.Problem.{Problem}
 use Rattle.paths.specs.Passes.{passProblem}
 use Rattle.record.specs.Meaning.{phraseOf}
+use Rattle.closed.specs.declared.search.Answer.{Answer}
 use Rattle.closed.specs.Asked.{columnsOf, Asked, askedOf, Agrees}
+use Rattle.closed.specs.Answered.{Says, passAnswer}
 use Rattle.closed.proofs.Staged.{pass-agrees, pass-ready}
-use Rattle.closed.proofs.Answers.{says-found, says-none}
+use Rattle.closed.proofs.Answers.{says-path}
 use borrow.Author.Needs.{needs}
 use Rattle.closed.proofs.search.attempt.Statement.{statement}
 use Rattle.closed.proofs.search.attempt.Tie as tie
@@ -44,11 +47,8 @@ best-path-requires c κs =
     let start = c .before .before .before .before .before .before .before .before .before .before .before in
     pass-ready (start .pre .0 .0) (start .args .pass) (start .pre .1 .0) (c .before .before .before .before .before .strictness-of .ensures) (c .before .before .before .boundary-count .ensures) (start .pre .0 .1) (start .pre .1 .1)
 
-enum-known-found : tie.Need-enum-known-found
-enum-known-found c = search needs
-
-enum-told : tie.Need-enum-told
-enum-told c = search needs
+answer-in-requires : tie.Need-answer-in-requires
+answer-in-requires c κs = search needs
 
 same-length : tie.Need-same-length
 same-length c = search needs
@@ -58,23 +58,10 @@ same-length-2 c = search needs
 
 returns : tie.Need-returns
 returns c =
-    let start = c .before .before .before .before .before .before .before .before .before .before .before .before .before .before .before .before .before .before .before .before in
-    let path = c .before .before .before .before .before .before .before .before .best-path in (
-      says-found (start .args .pass) (problem start) (length (columns start)) (path .result) (path .ensures .0 (problem start) (agreed (c .before .before .before .before .before .before .before .before .before .before .before .before))) (c .before .found .given .1),
-      path .ensures .1,
-    )
-
-same-length-3 : tie.Need-same-length-3
-same-length-3 c = search needs
-
-same-length-4 : tie.Need-same-length-4
-same-length-4 c = search needs
-
-returns-2 : tie.Need-returns-2
-returns-2 c =
-    let start = c .before .before .before .before .before .before .before .before .before .before .before .before .before .before .before .before .before .before .before in
-    let path = c .before .before .before .before .before .before .before .best-path in (
-      says-none (start .args .pass) (problem start) (length (columns start)) (path .result) (path .ensures .0 (problem start) (agreed (c .before .before .before .before .before .before .before .before .before .before .before))) (c .enum-told .given .1),
+    let start = c .before .before .before .before .before .before .before .before .before .before .before .before .before .before .before .before .before .before in
+    let path = c .before .before .before .before .before .before .best-path in (
+      subst⁻¹ (λ (answer : Answer). Says (passAnswer (phrase start) (start .args .pass) (columns start)) (record { answer = answer; units = path .result .units })) (c .before .answer-in .ensures)
+          (says-path (start .args .pass) (problem start) (length (columns start)) (path .result) (path .ensures .0 (problem start) (agreed (c .before .before .before .before .before .before .before .before .before .before)))),
       path .ensures .1,
     )
 
@@ -85,11 +72,7 @@ attempt-spec =
     strictness-of-requires
     boundary-count-requires
     best-path-requires
-    enum-known-found
-    enum-told
+    answer-in-requires
     same-length
     same-length-2
-    returns
-    same-length-3
-    same-length-4
-    returns-2)
+    returns)

@@ -3,13 +3,13 @@ use mathlib.Core.Bool.{true}
 use mathlib.Core.List.{List}
 use mathlib.Core.Path.{_≡_, refl, sym, _∙_}
 use Prim.Native.Nat.{ℕ}
-use lib.Ieee.{Float}
 use borrow.Author.Tests.{not-true, not-false}
 use Rattle.phrase.specs.Phrase.{Phrase}
 use Rattle.paths.specs.Passes.{speaks, hasNucleus, nonEmpty}
 use Rattle.record.specs.Meaning.{phraseOf}
-use Rattle.closed.specs.Asked.{columnsOf, Unused}
-use Rattle.closed.proofs.InOrder.{says-unvoiced, says-silent, says-strict, says-relaxed, says-count, says-last}
+use Rattle.closed.specs.Asked.{columnsOf}
+use Rattle.closed.proofs.Restored.{still}
+use Rattle.closed.proofs.InOrder.{says-unvoiced, says-silent, says-strict, says-relaxed, says-added}
 use borrow.Author.Needs.{needs}
 use Rattle.closed.proofs.search.search.Statement.{statement}
 use Rattle.closed.proofs.search.search.Tie as tie
@@ -35,11 +35,6 @@ added : (c : tie.Else4) → nonEmpty (phrase (c .before .before .before .before 
 added c =
     let start = c .before .before .before .before .before .before .before .before .before .before .before .before .before .before .before .before .before .before .before .before .before .before in
     sym (start .pre .0 .1 .added) ∙ not-false (start .args .runs .added) (c .if4 .left)
-
--- areas that are as they came are unused still
-still :
-    {best best′ : List Float} {back back′ : List ℕ} {cells : ℕ} → best′ ≡ best → back′ ≡ back → Unused best back cells → Unused best′ back′ cells
-still e f unused = rw (e, f) unused
 
 no-path-requires : tie.Need-no-path-requires
 no-path-requires c κs = search needs
@@ -106,14 +101,11 @@ returns-4 c =
       (last .ensures .1 .0 ∙ first .ensures .1 .0, last .ensures .1 .1 ∙ first .ensures .1 .1),
     )
 
-attempt-requires-3 : tie.Need-attempt-requires-3
-attempt-requires-3 c κs =
+search-added-requires : tie.Need-search-added-requires
+search-added-requires c κs =
     let start = c .before .before .before .before .before .before .before .before .before .before .before .before .before .before .before .before .before .before .before .before .before .before .before .before in
     let first = c .before .before .before .before .before .before .before .before .before .before .attempt .ensures .1 in
     ((start .pre .0 .0, voiced (c .before .before .before .before .before .before .before .before .before .before .before .before .before .before .before)), (start .pre .1 .0 .added (added (c .before .before)), still (first .0) (first .1) (start .pre .1 .1)))
-
-is-found-requires-2 : tie.Need-is-found-requires-2
-is-found-requires-2 c κs = search needs
 
 same-length-5 : tie.Need-same-length-5
 same-length-5 c = search needs
@@ -123,38 +115,12 @@ same-length-6 c = search needs
 
 returns-5 : tie.Need-returns-5
 returns-5 c =
-    let start = c .before .before .before .before .before .before .before .before .before .before .before .before .before .before .before .before .before .before .before .before .before .before .before .before .before .before .before .before .before .before .before in
-    let first = c .before .before .before .before .before .before .before .before .before .before .before .before .before .before .before .before .before .attempt in
-    let second = c .before .before .before .before .before .before .attempt3 in (
-      says-count (phrase start) (columns start) (voiced (c .before .before .before .before .before .before .before .before .before .before .before .before .before .before .before .before .before .before .before .before .before .before)) (spoken (c .before .before .before .before .before .before .before .before .before .before .before .before .before .before .before .before .before .before .before .before)) (first .result) (first .ensures .0) (sym (c .before .before .before .before .before .before .before .before .before .before .before .before .is-found .ensures) ∙ c .before .before .before .before .before .before .before .before .before .before .before .if3 .left)
-          (added (c .before .before .before .before .before .before .before .before .before)) (second .result) (second .ensures .0) (sym (c .before .is-found2 .ensures) ∙ c .if5 .taken),
-      (second .ensures .1 .0 ∙ first .ensures .1 .0, second .ensures .1 .1 ∙ first .ensures .1 .1),
-    )
-
-attempt-requires-4 : tie.Need-attempt-requires-4
-attempt-requires-4 c κs =
-    let start = c .before .before .before .before .before .before .before .before .before .before .before .before .before .before .before .before .before .before .before .before .before .before .before .before .before .before .before .before .before .before .before .before .before in
-    let first = c .before .before .before .before .before .before .before .before .before .before .before .before .before .before .before .before .before .before .before .attempt .ensures .1 in
-    let second = c .before .before .before .before .before .before .before .before .attempt3 .ensures .1 in (
-      (start .pre .0 .0, voiced (c .before .before .before .before .before .before .before .before .before .before .before .before .before .before .before .before .before .before .before .before .before .before .before .before)),
-      (start .pre .1 .0 .added (added (c .before .before .before .before .before .before .before .before .before .before .before)), still (second .0 ∙ first .0) (second .1 ∙ first .1) (start .pre .1 .1)),
-    )
-
-same-length-7 : tie.Need-same-length-7
-same-length-7 c = c .before .before .before .before .attempt4 .kept .0 ∙ c .before .before .before .before .before .before .before .before .before .before .before .before .before .attempt3 .kept .0 ∙ c .before .before .before .before .before .before .before .before .before .before .before .before .before .before .before .before .before .before .before .before .before .before .before .before .attempt .kept .0
-
-same-length-8 : tie.Need-same-length-8
-same-length-8 c = c .before .before .before .before .attempt4 .kept .1 .0 ∙ c .before .before .before .before .before .before .before .before .before .before .before .before .before .attempt3 .kept .1 .0 ∙ c .before .before .before .before .before .before .before .before .before .before .before .before .before .before .before .before .before .before .before .before .before .before .before .before .attempt .kept .1 .0
-
-returns-6 : tie.Need-returns-6
-returns-6 c =
-    let start = c .before .before .before .before .before .before .before .before .before .before .before .before .before .before .before .before .before .before .before .before .before .before .before .before .before .before .before .before .before .before .before .before .before .before .before .before .before .before in
-    let first = c .before .before .before .before .before .before .before .before .before .before .before .before .before .before .before .before .before .before .before .before .before .before .before .before .attempt in
-    let second = c .before .before .before .before .before .before .before .before .before .before .before .before .before .attempt3 in
-    let last = c .before .before .before .before .attempt4 in (
-      says-last (phrase start) (columns start) (voiced (c .before .before .before .before .before .before .before .before .before .before .before .before .before .before .before .before .before .before .before .before .before .before .before .before .before .before .before .before .before)) (spoken (c .before .before .before .before .before .before .before .before .before .before .before .before .before .before .before .before .before .before .before .before .before .before .before .before .before .before .before)) (first .result) (first .ensures .0) (sym (c .before .before .before .before .before .before .before .before .before .before .before .before .before .before .before .before .before .before .before .is-found .ensures) ∙ c .before .before .before .before .before .before .before .before .before .before .before .before .before .before .before .before .before .before .if3 .left)
-          (added (c .before .before .before .before .before .before .before .before .before .before .before .before .before .before .before .before)) (second .result) (second .ensures .0) (sym (c .before .before .before .before .before .before .before .before .is-found2 .ensures) ∙ c .before .before .before .before .before .before .before .if5 .left) (last .result) (last .ensures .0),
-      (last .ensures .1 .0 ∙ second .ensures .1 .0 ∙ first .ensures .1 .0, last .ensures .1 .1 ∙ second .ensures .1 .1 ∙ first .ensures .1 .1),
+    let start = c .before .before .before .before .before .before .before .before .before .before .before .before .before .before .before .before .before .before .before .before .before .before .before .before .before .before .before .before .before in
+    let first = c .before .before .before .before .before .before .before .before .before .before .before .before .before .before .before .attempt in
+    let last = c .before .before .before .before .search-added in (
+      says-added (phrase start) (columns start) (voiced (c .before .before .before .before .before .before .before .before .before .before .before .before .before .before .before .before .before .before .before .before)) (spoken (c .before .before .before .before .before .before .before .before .before .before .before .before .before .before .before .before .before .before)) (first .result) (first .ensures .0) (sym (c .before .before .before .before .before .before .before .before .before .before .is-found .ensures) ∙ c .before .before .before .before .before .before .before .before .before .if3 .left)
+          (added (c .before .before .before .before .before .before .before)) (last .result) (last .ensures .0),
+      (last .ensures .1 .0 ∙ first .ensures .1 .0, last .ensures .1 .1 ∙ first .ensures .1 .1),
     )
 
 pub search-spec : {M : Type 1} → statement M
@@ -174,12 +140,7 @@ search-spec =
     same-length-3
     same-length-4
     returns-4
-    attempt-requires-3
-    is-found-requires-2
+    search-added-requires
     same-length-5
     same-length-6
-    returns-5
-    attempt-requires-4
-    same-length-7
-    same-length-8
-    returns-6)
+    returns-5)

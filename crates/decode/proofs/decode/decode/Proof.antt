@@ -76,14 +76,13 @@ put-candidates-requires c κs =
     let ok = accepted-call (a .«record» .now) (length (a .best .now)) (length (a .back .now)) (length (a .out .now)) _ (sym (c .before .before .before .before .before .before .before .before .before .before .before .before .before .before .before .before .before .before .before .before .before .before .before .before .before .before .before .before .check-areas .ensures) ∙ c .before .before .before .before .before .before .before .before .before .before .before .before .before .before .before .before .before .before .before .before .before .before .before .before .before .before .checked2 .given .1) in
     let cleared = c .before .before .before .before .before .before .before .before .before .before .before .before .before .before .before .before .before .before .before .before .before .before .clear .ensures in
     let added = c .before .before .before .before .before .before .before .before .before .lay-added in (
-      ok .laid,
-      (
-        c .before .before .before .before .before .before .before .before .before .before .before .before .before .before .before .before .before .plan-of .ensures,
-        (
-          lends (c .before .before .before .before .before .before .before .before .before .before .before .before .before .before .before .before .before .plan-of .ensures) (c .before .before .before .before .before .before .before .before .before .before .before .before .before .before .lay-stage .ensures) (added .ensures),
-          (unused-cleared (a .best .now) (a .back .now) (edition1 .«work_cells») (cleared .0) (cleared .1) (ok .values) (ok .marks), ok .words),
-        ),
-      ),
+      record {
+        laid = ok .laid;
+        planned = c .before .before .before .before .before .before .before .before .before .before .before .before .before .before .before .before .before .plan-of .ensures;
+        lent = lends (c .before .before .before .before .before .before .before .before .before .before .before .before .before .before .before .before .before .plan-of .ensures) (c .before .before .before .before .before .before .before .before .before .before .before .before .before .before .lay-stage .ensures) (added .ensures);
+        unused = unused-cleared (a .best .now) (a .back .now) (edition1 .«work_cells») (cleared .0) (cleared .1) (ok .values) (ok .marks);
+      },
+      ok .words,
     )
 
 cast-count : tie.Need-cast-count

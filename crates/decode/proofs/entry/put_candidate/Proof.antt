@@ -1,10 +1,6 @@
 -- The search leaves the work areas as they were, and the entry goes to its rank.
-use mathlib.Core.Path.{subst}
-use native.Mathlib.Omega.{arith}
 use Rattle.record.specs.Meaning.{phraseOf}
 use Rattle.record.specs.Reading.{candidateOf}
-use Rattle.entries.specs.Entry.{Entry}
-use Rattle.entries.specs.Placing.{Inserted}
 use Rattle.decoding.specs.EntryOf.{entryOf}
 use Rattle.decode.proofs.Plans.{both-lent}
 use borrow.Author.Needs.{needs}
@@ -14,36 +10,17 @@ use Rattle.decode.proofs.entry.put_candidate.Tie as tie
 search-requires : tie.Need-search-requires
 search-requires c κs =
     let pre = c .before .before .before .before .before .before .before .before .before .before .before .pre in
-    ((record { laid = pre .0; figures = pre .1 .1 .0 .costs; listed = pre .1 .0 }, pre .1 .1 .0 .runs), (both-lent (pre .1 .1 .1 .0), pre .1 .1 .1 .1 .0))
+    let ready = pre .0 in
+    ((record { laid = ready .laid; figures = ready .planned .costs; listed = pre .1 .0 }, ready .planned .runs), (both-lent (ready .lent), ready .unused))
 
 score-candidate-requires : tie.Need-score-candidate-requires
 score-candidate-requires c κs =
     let start = c .before .before .before .before .before .before .before .before .before .before .before .before .before .before .before .before in
-    let pre = start .pre in
-    (pre .0, (pre .1 .0, (pre .1 .1 .0, (c .before .before .before .before .search .ensures .0, record { figures = start .args .figures .now; addedFigures = start .args .added-figures .now; lent = pre .1 .1 .1 .0 }))))
+    let ready = start .pre .0 in
+    (ready .laid, (start .pre .1 .0, (ready .planned, (c .before .before .before .before .search .ensures .0, record { figures = start .args .figures .now; addedFigures = start .args .added-figures .now; lent = ready .lent }))))
 
-slice-aggregate-insert-entry : tie.Need-slice-aggregate-insert-entry
-slice-aggregate-insert-entry c = search needs
-
-slice-aggregate-insert-entry-2 : tie.Need-slice-aggregate-insert-entry-2
-slice-aggregate-insert-entry-2 c = search needs
-
-slice-aggregate-insert-entry-3 : tie.Need-slice-aggregate-insert-entry-3
-slice-aggregate-insert-entry-3 c = search needs
-
-insert-entry-requires : tie.Need-insert-entry-requires
-insert-entry-requires c κs =
-    let pre = c .before .before .before .before .before .before .before .before .before .before .before .before .before .before .before .before .before .before .before .before .before .before .before .before .before .pre in
-    let s = c .before .before .before .before .before .before .before .before .score-candidate .ensures in (
-      pre .1 .1 .1 .1 .1,
-      record {
-        few = s .few;
-        number = s .number;
-        inStarts = omega (arith, s .few, s .starts);
-        inEnds = omega (arith, s .few, s .ends);
-        inRows = omega (arith, s .few, s .rows);
-      },
-    )
+insert-scored-requires : tie.Need-insert-scored-requires
+insert-scored-requires c κs = (c .before .before .before .before .before .before .before .before .before .before .before .before .before .before .before .before .before .before .pre .1 .1, (_, c .before .score-candidate .ensures))
 
 same-length : tie.Need-same-length
 same-length c = search needs
@@ -56,10 +33,9 @@ same-length-3 c = search needs
 
 returns : tie.Need-returns
 returns c =
-    let s = c .before .before .before .before .before .before .before .before .before .before .before .score-candidate .ensures in
-    let a = c .before .before .before .before .before .before .before .before .before .before .before .before .before .before .before .before .before .before .before .before .before .before .before .before .before .before .before .before .args in
+    let a = c .before .before .before .before .before .before .before .before .before .before .before .before .before .before .before .before .before .before .before .before .before .args in
     let entry = entryOf (phraseOf (a .bytes .now)) (candidateOf (phraseOf (a .bytes .now)) (a .number)) in
-    (subst (λ (e : Entry). Inserted 16 (a .number) e (a .out .now) (c .before .before .insert-entry .last .0)) (s .whole) (c .before .before .insert-entry .ensures (entry .total)), c .before .before .before .before .before .before .before .before .before .before .before .before .before .before .before .before .search .ensures .1)
+    (c .before .before .insert-scored .ensures entry (c .before .before .before .before .score-candidate .ensures), c .before .before .before .before .before .before .before .before .before .search .ensures .1)
 
 pub put-candidate-spec : {M : Type 1} → statement M
 put-candidate-spec =
@@ -67,10 +43,7 @@ put-candidate-spec =
     (tie.spec
     search-requires
     score-candidate-requires
-    slice-aggregate-insert-entry
-    slice-aggregate-insert-entry-2
-    slice-aggregate-insert-entry-3
-    insert-entry-requires
+    insert-scored-requires
     same-length
     same-length-2
     same-length-3

@@ -1,7 +1,7 @@
 -- After each candidate the output holds the entries so far, ranked, and the work areas are as they were.
 use Prim.Native.Nat.{ℕ, _+_, _-_, _*_, _≤_, _<_}
 use mathlib.Core.List.{List, _++_}
-use mathlib.Core.Path.{_≡_, refl, ap, subst⁻¹, _∙_}
+use mathlib.Core.Path.{_≡_, refl, ap, _∙_}
 use native.Mathlib.Omega.{arith}
 use lib.Ieee.{Float}
 use lib.ListN.{length, drop}
@@ -10,7 +10,7 @@ use Rattle.record.specs.Edition.{edition1}
 use Rattle.record.specs.Meaning.{phraseOf}
 use Rattle.record.proofs.Accepted.{counts}
 use Rattle.record.proofs.Reading.{candidate-count}
-use Rattle.closed.specs.Asked.{Unused}
+use Rattle.closed.proofs.Restored.{still}
 use Rattle.entries.specs.Entry.{Entry}
 use Rattle.entries.specs.Words.{allWords}
 use Rattle.entries.specs.Ranking.{ranked}
@@ -41,27 +41,13 @@ put-candidate-requires c κs =
     let start = c .before .before .before .before .before .before .before .before .before .before .before .before .before in
     let pre = start .pre in
     let l = c .before .before .before .before .loop in
-    let counted = candidate-count (pre .0) in
-    let below : l .candidate < length (phraseOf (start .args .bytes .now) .candidates) = omega (arith, counted, c .before .before .before .loop-test .taken) in (
-      pre .0,
-      (
-        below,
-        (
-          pre .1 .0,
-          (
-            pre .1 .1 .0,
-            (
-              subst⁻¹ (λ (xs : List Float). Unused xs (l .back) (edition1 .«work_cells»)) (l .inv .values)
-                  (subst⁻¹ (λ (xs : List ℕ). Unused (start .args .best .now) xs (edition1 .«work_cells»)) (l .inv .marks) (pre .1 .1 .1 .0)),
-              omega (arith, below, l .inv .long, pre .1 .1 .1 .1),
-            ),
-          ),
-        ),
-      ),
-    )
+    let ready = pre .0 in
+    let below : l .candidate < length (phraseOf (start .args .bytes .now) .candidates) = omega (arith, candidate-count (ready .laid), c .before .before .before .loop-test .taken) in
+    let unused = still (l .inv .values) (l .inv .marks) (ready .unused) in
+    (record { laid = ready .laid; planned = ready .planned; lent = ready .lent; unused = unused }, (below, omega (arith, below, l .inv .long, pre .1)))
 
 add-candidate : tie.Need-add-candidate Inv-loop μ-loop
-add-candidate c = omega (arith, c .before .before .before .before .before .before .before .before .before .before .loop-test .taken, counts (c .before .before .before .before .before .before .before .before .before .before .before .before .before .before .before .before .before .before .before .before .pre .0) .candidates)
+add-candidate c = omega (arith, c .before .before .before .before .before .before .before .before .before .before .loop-test .taken, counts (c .before .before .before .before .before .before .before .before .before .before .before .before .before .before .before .before .before .before .before .before .pre .0 .laid) .candidates)
 
 loop-less : tie.Need-loop-less Inv-loop μ-loop
 loop-less c = omega (arith, c .before .before .before .before .before .before .before .before .before .before .loop-test .taken)
@@ -72,13 +58,13 @@ loop-again c =
     let pre = start .pre in
     let l = c .before .before .before .before .before .before .before .before .before .before .before .loop in
     let put = c .before .before .before .before .before .before .put-candidate in
-    let counted = candidate-count (pre .0) in
+    let counted = candidate-count (pre .0 .laid) in
     let less = c .before .before .before .before .before .before .before .before .before .before .loop-test .taken in
     record {
       within = omega (arith, less);
       values = put .ensures .1 .0 ∙ l .inv .values;
       marks = put .ensures .1 .1 ∙ l .inv .marks;
-      held = next-held (start .args .bytes .now) (pre .0 .accepted) (l .candidate) (start .args .out .now) (omega (arith, counted, less)) (l .inv .held) (put .ensures .0);
+      held = next-held (start .args .bytes .now) (pre .0 .laid .accepted) (l .candidate) (start .args .out .now) (omega (arith, counted, less)) (l .inv .held) (put .ensures .0);
       long = put .kept .1 .1 .1 .1 .1 .1 .1 .1 .1 .1 .0 ∙ l .inv .long;
     }
 
@@ -96,7 +82,7 @@ returns c =
     let start = c .before .before .before .before .before .before .before .before .before .before in
     let phrase = phraseOf (start .args .bytes .now) in
     let l = c .before .loop in
-    let e : l .candidate ≡ length (phrase .candidates) = omega (arith, candidate-count (start .pre .0), l .inv .within, c .loop-test .left) in (
+    let e : l .candidate ≡ length (phrase .candidates) = omega (arith, candidate-count (start .pre .0 .laid), l .inv .within, c .loop-test .left) in (
       l .inv .held ∙ ap (λ (n : ℕ). heldAfter phrase n (start .args .out .now)) e
           ∙ ap (λ (es : List Entry). allWords (edition1 .units) (ranked es) ++ drop (length (phrase .candidates) * edition1 .«entry_words») (start .args .out .now)) (every-entry phrase),
       (l .inv .values, l .inv .marks),
