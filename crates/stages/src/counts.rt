@@ -1,10 +1,9 @@
 // Speech frames counted from boundary to boundary, after `prefix_counts` and `Filler::count` of closed.rs.
 
 ghost use mathlib.Core.Path.{_≡_};
-ghost use Prim.Native.Nat.{_+_, _<_, _≤_, _^_, min};
+ghost use Prim.Native.Nat.{_+_, _<_, _^_, min};
 ghost use lib.ListN.{length};
 ghost use Rattle.paths.specs.Frames.{Increasing, weight as weightOf, speechIn};
-ghost use Rattle.stages.specs.Room.{most};
 ghost use Rattle.laws.specs.Listed.{written};
 ghost use Rattle.stages.specs.Edges.{speechBefore};
 

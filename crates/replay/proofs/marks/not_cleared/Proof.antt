@@ -1,10 +1,9 @@
 -- The loop has found no cell below `i` that is not as wanted.
-use mathlib.Core.Path.{_≡_, sym, _∙_}
+use mathlib.Core.Path.{_≡_, sym}
 use Prim.Native.Nat.{ℕ, _-_, _≤_}
 use mathlib.Core.Bool.{Bool, not, false}
 use mathlib.Core.List.{List}
-use native.Mathlib.Omega.{arith}
-use lib.Dec.{eqb, ltb}
+use lib.Dec.{eqb}
 use lib.ListN.{length, getD}
 use Rattle.record.specs.Below.{anyBelow}
 use Rattle.record.proofs.Below.{any-none, any-more, any-found, any-end}

@@ -5,7 +5,7 @@ use mathlib.Core.List.{List}
 use mathlib.Core.Logic.{⊎-elim}
 use native.Mathlib.Omega.{arith}
 use borrow.Author.Needs.{needs}
-use lib.ListN.{length, take, set, length-set, length-replicate}
+use lib.ListN.{length, take, length-set, length-replicate}
 use lib.Seq.{take-length}
 use Rattle.paths.specs.Anchors.{keptIn, select, numbered}
 use Rattle.stages.specs.Room.{room}
