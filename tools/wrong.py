@@ -76,8 +76,10 @@ def attempt(crates):
     with tempfile.TemporaryDirectory() as folder:
         copy = Path(folder) / "copy"
         shutil.copytree(TOP, copy, ignore=shutil.ignore_patterns("must-fail", ".git", "oracle", "bench"))
-        for name in crates:
-            (copy / "crates" / name / "tried").rename(copy / "crates" / name / "must-fail")
+        for crate in (copy / "crates" / name for name in crates):
+            if not (crate / "tried").is_dir():
+                sys.exit(f"crates/{crate.name}/tried: no such folder")
+            (crate / "tried").rename(crate / "must-fail")
         status = subprocess.run(["rt", "must-fail", *crates], cwd=copy).returncode
         for log in sorted(copy.glob("target/must-fail/*/*/.log")):
             missed = [f"{place}: {name or of_search}" for place, name, of_search in MISSED.findall(log.read_text())]
