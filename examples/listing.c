@@ -4,15 +4,6 @@
 
 #include "tikuwero.h"
 
-static const char *const passes[] = {
-    [TIKUWERO_NUCLEI_STRICT] = "nuclei-strict",
-    [TIKUWERO_COUNT_STRICT] = "count-strict",
-    [TIKUWERO_COUNT_RELAXED] = "count-relaxed",
-    [TIKUWERO_NUCLEI_RELAXED] = "nuclei-relaxed",
-    [TIKUWERO_NO_PATH] = "none",
-    [TIKUWERO_UNVOICED] = "unvoiced",
-};
-
 static void print_unit(const uint32_t unit[3])
 {
     printf("%" PRIu32 " %" PRIu32 " ", unit[0], unit[1]);
@@ -26,7 +17,7 @@ static void print_entry(const uint32_t *entry)
 {
     uint32_t count = entry[TIKUWERO_ENTRY_COUNT];
     printf("candidate %" PRIu32 " %08" PRIx32 " %s %" PRIu32 "\n", entry[TIKUWERO_ENTRY_ID],
-           entry[TIKUWERO_ENTRY_LLR], passes[entry[TIKUWERO_ENTRY_PASS]], count);
+           entry[TIKUWERO_ENTRY_LLR], tikuwero_pass_word(entry[TIKUWERO_ENTRY_PASS]), count);
     for (uint32_t i = 0; i < count; i++)
         print_unit(entry + TIKUWERO_ENTRY_UNITS + 3 * i);
 }

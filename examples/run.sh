@@ -1,19 +1,35 @@
 #!/bin/sh
-# Proves and builds the archive, links the C and Rust examples with it, runs them and compares what they print.
+# Proves and builds the archive, links the C and Rust examples with it, runs them and compares what they print. The header is
+# taken as C99 and the Rust module in two editions, without a warning, also where none or few of their items are used.
 set -eu
 cd "$(dirname "$0")/.."
 rt staticlib tikuwero
 built=target/examples
 mkdir -p "$built"
-for name in listing calls; do
-    "${CC:-gcc}" -std=c11 -O2 -Wall -Wextra -Werror -Iinclude "examples/$name.c" \
-        target/staticlib/libtikuwero.a -o "$built/$name"
+
+c99() {
+    "${CC:-gcc}" -std=c99 -O2 -Wall -Wextra -pedantic -Werror -Iinclude "$@"
+}
+echo '#include "tikuwero.h"' | c99 -fsyntax-only -x c -
+for name in listing calls foretold; do
+    c99 "examples/$name.c" target/staticlib/libtikuwero.a -o "$built/$name"
 done
-"${RUSTC:-rustc}" --edition 2021 -O -D warnings -L native=target/staticlib -l static=tikuwero \
-    examples/listing.rs -o "$built/listing_rust"
-for listing in listing listing_rust; do
+
+for edition in 2021 2024; do
+    rust() {
+        "${RUSTC:-rustc}" --edition "$edition" -O -D warnings -L native=target/staticlib -l static=tikuwero "$@"
+    }
+    printf '#[path = "examples/tikuwero.rs"]\nmod tikuwero;\nfn main() {}\n' | rust --emit metadata -o "$built/unused" -
+    for name in listing calls; do
+        rust "examples/$name.rs" -o "$built/${name}_$edition"
+    done
+    "$built/calls_$edition" crates/listing/stdin | cmp - examples/calls_rust.out
+done
+
+for listing in listing listing_2021 listing_2024; do
     "$built/$listing" <crates/listing/stdin | cmp - crates/listing/stdout
     "$built/$listing" </dev/null | cmp - examples/stub.listing
 done
 "$built/calls" | cmp - examples/calls.out
+"$built/foretold" <crates/listing/stdin
 echo "examples: what they print is as expected"

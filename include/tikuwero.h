@@ -3,8 +3,9 @@
  *
  * What each call returns, and what it leaves in the caller's memory, is proved for every input
  * (crates/tikuwero/specs), byte for byte but for one thing: of a double that held a NaN and that the
- * call does not write, that it still holds a NaN, and not which. The proofs assume of the caller
- * what no function can test:
+ * call does not write, that it still holds a NaN, and not which. (The two functions that give words
+ * are plain C in this header and no part of the archive.) The proofs assume of the caller what no
+ * function can test:
  *
  *   - no pointer is null, also where its length is 0, and each is aligned for its type;
  *   - behind a pointer with a length there are that many elements, not bytes; they can be read,
@@ -12,7 +13,7 @@
  *   - memory that a call writes overlaps nothing else that is lent to the same call, and nobody
  *     else uses what is lent until the call returns.
  *
- * Every other input is answered. A value is 0 or more. A refusal is minus its number
+ * Every other input is answered. A value is 0 or more. A refusal is minus its number, -1 to -11
  * (TIKUWERO_STUB and those after it); then all lent memory keeps its bytes. The lowest number that
  * applies is given, save that tikuwero_decode tests 8, 9 and 10 candidate by candidate.
  *
@@ -21,7 +22,9 @@
  * and nothing else. tikuwero_decode takes 11,400 bytes of stack on x86-64, whatever the record
  * (measured, not proved).
  *
- * A frame is 10 ms. A mask has a byte for each frame, 1 where the frame has the mark and else 0.
+ * A frame is 10 ms. A mask has a byte for each frame, 1 where the frame has the mark and else 0; a
+ * frame past the mask's length has no mark. start..end are the frames from start up to but not
+ * including end.
  */
 #ifndef TIKUWERO_H
 #define TIKUWERO_H
@@ -33,8 +36,9 @@
 extern "C" {
 #endif
 
-/* The refusals. A record gives TIKUWERO_SIZE also where it has no columns, or added boundaries but
- * no anchors, and TIKUWERO_TRACK where a list is not strictly increasing or speech edges are bad. */
+/* The refusals. docs/FORMAT.md has the limits of a record. It gives TIKUWERO_SIZE also where it has
+ * no columns, or added boundaries but no anchors, and TIKUWERO_TRACK also where a list is not
+ * strictly increasing or speech edges are bad. */
 enum {
     TIKUWERO_STUB = 1,    /* the record has fewer than 64 or more than 65,536 bytes */
     TIKUWERO_EDITION = 2, /* the record's edition is not 1 */
@@ -48,6 +52,26 @@ enum {
     TIKUWERO_COLUMN = 10, /* a used column number is not below the number of columns */
     TIKUWERO_DESK = 11    /* a work area or an output is too short */
 };
+
+/* The word of a refusal, for what a call returned: "stub" for -TIKUWERO_STUB and so on. NULL for
+ * every other number, the positive ones too. */
+static inline const char *tikuwero_refusal_word(int32_t returned)
+{
+    switch (returned) {
+    case -TIKUWERO_STUB: return "stub";
+    case -TIKUWERO_EDITION: return "edition";
+    case -TIKUWERO_SIZE: return "size";
+    case -TIKUWERO_REACH: return "reach";
+    case -TIKUWERO_TRACK: return "track";
+    case -TIKUWERO_COST: return "cost";
+    case -TIKUWERO_BARE: return "bare";
+    case -TIKUWERO_TWICE: return "twice";
+    case -TIKUWERO_UNITS: return "units";
+    case -TIKUWERO_COLUMN: return "column";
+    case -TIKUWERO_DESK: return "desk";
+    default: return NULL;
+    }
+}
 
 /* Sizes, in elements. */
 #define TIKUWERO_MAX_RECORD 65536  /* bytes of a record */
@@ -63,9 +87,9 @@ enum {
 #define TIKUWERO_LAST_FRAME 4095
 #define TIKUWERO_NONE UINT32_C(4294967295)
 
-/* Words of an entry. From TIKUWERO_ENTRY_UNITS on there are 16 triples start, end, row, of which
- * those past the number of units are 0. A unit takes the frames from its start up to but not
- * including its end. */
+/* Words of an entry. From TIKUWERO_ENTRY_UNITS on there are 16 triples start, end, row: the unit
+ * takes the frames start..end, and row is that of its anchor's scores (nuclei, then added anchors)
+ * or TIKUWERO_NONE. Triples past the number of units are 0. */
 enum {
     TIKUWERO_ENTRY_ID = 0,
     TIKUWERO_ENTRY_LLR = 1, /* the score: the bits of a float */
@@ -84,7 +108,22 @@ enum {
     TIKUWERO_UNVOICED = 5 /* no path and no nucleus in the mask */
 };
 
-/* Decodes a phrase record of edition 1.
+/* The word of a pass: "nuclei-strict", "count-strict", "count-relaxed", "nuclei-relaxed", "none",
+ * "unvoiced". NULL for every other number. */
+static inline const char *tikuwero_pass_word(uint32_t pass)
+{
+    switch (pass) {
+    case TIKUWERO_NUCLEI_STRICT: return "nuclei-strict";
+    case TIKUWERO_COUNT_STRICT: return "count-strict";
+    case TIKUWERO_COUNT_RELAXED: return "count-relaxed";
+    case TIKUWERO_NUCLEI_RELAXED: return "nuclei-relaxed";
+    case TIKUWERO_NO_PATH: return "none";
+    case TIKUWERO_UNVOICED: return "unvoiced";
+    default: return NULL;
+    }
+}
+
+/* Decodes a phrase record of edition 1, as docs/FORMAT.md has it byte by byte.
  *
  * Returns M, the number of the record's candidates, 1 to 16. out then begins with M entries of
  * TIKUWERO_ENTRY_WORDS words, best score first (+0 before -0), those of equal score in the
@@ -98,17 +137,29 @@ int32_t tikuwero_decode(const uint8_t *record, size_t record_len, double *best, 
 
 /* The speaking rate in seconds per syllable, from the frames of nuclei in any order, repeats kept.
  *
- * Returns 0, and *rate is the median gap between frames that follow one another, in seconds; it is
- * default_s where there are fewer than two frames or that gap is 0.
+ * With the frames in ascending order, a gap is the difference of one frame to the next: n frames
+ * have n - 1 gaps, 0 for a repeat. The median is the middle gap in ascending order or, of an even
+ * number of gaps, half the sum of the middle two: frames 0, 10, 30 have the gaps 10 and 20 and the
+ * median 15, so the rate 0.15.
+ *
+ * Returns 0, and *rate is median * 0.01, one product of doubles (which may be off a quotient by 100
+ * in the last bit: 35 * 0.01 is not 0.35). It is default_s, to the bit, where there are fewer than
+ * two frames or the median is 0.
  *
  * Refuses with 3: n above TIKUWERO_MAX_FRAMES; 5: a frame above TIKUWERO_LAST_FRAME; 6: default_s
  * not finite or outside -1,000,000 to 1,000,000; also where the frames alone give a rate. */
 int32_t tikuwero_rate_s(const uint32_t *frames, size_t n, double default_s, double *rate);
 
 /* The span of each nucleus: from the boundary below it to the boundary above it, or to the edges
- * where there is none; where the spans of neighbours overlap, each is cut midway between the two
- * nuclei. Both lists may stand in any order, a nucleus that is listed twice counts once, and
- * lo_edge may be above hi_edge.
+ * where there is none. Both lists may stand in any order, a nucleus that is listed twice counts
+ * once, and lo_edge may be above hi_edge.
+ *
+ * The span of nucleus f starts at the highest boundary below f, else at min(lo_edge, f), and ends
+ * at the lowest boundary above f, else at max(hi_edge, f + 1). A boundary at f is neither. Nucleus
+ * 10 without boundaries and with the edges 12 and 5 has 10..11. Where of two neighbouring nuclei
+ * the left one's span ends above the right one's start, both become left + (right - left + 1) / 2,
+ * in whole numbers: midway, rounded up. Nuclei 10 and 13 with the edges 5 and 20 have 5..12 and
+ * 12..20. The other ends of the two spans stay what they are.
  *
  * Returns the number of spans, 0 to TIKUWERO_MAX_FRAMES. out then begins with two words for each,
  * its start and its end, by ascending nucleus; its words past them are untouched.
@@ -118,10 +169,11 @@ int32_t tikuwero_rate_s(const uint32_t *frames, size_t n, double default_s, doub
 int32_t tikuwero_tbu_spans(const uint32_t *nuclei, size_t n, const uint32_t *bounds, size_t b,
                            uint32_t lo_edge, uint32_t hi_edge, uint32_t *out, size_t out_len);
 
-/* Which edges of the span from start to end the voice runs through, from one syllable into the
- * next: an edge is joined where the three frames on either side of it are all marked in voice, and
- * the three before it and the frame at it in pitched. The masks may differ in length, and start
- * may be above end.
+/* Which edges of the span start..end the voice runs through, from one syllable into the next. The
+ * masks may differ in length, and start may be above end.
+ *
+ * An edge e, be it start or end, is joined exactly if e >= 3, the frames e - 3 to e + 2 are all
+ * marked in voice, and the frames e - 3 to e in pitched. So e + 3 <= v and e < p.
  *
  * Returns 1 where the start is joined and 2 where the end is, added: 0 to 3.
  *
@@ -130,12 +182,23 @@ int32_t tikuwero_tbu_spans(const uint32_t *nuclei, size_t n, const uint32_t *bou
 int32_t tikuwero_joins(const uint8_t *voice, size_t v, const uint8_t *pitched, size_t p,
                        uint32_t start, uint32_t end);
 
-/* Whether the syllable from start to end dies away in creak: after its last pitched frame come
- * five or more frames of unpitched vowel speech, which do not run on into the next nucleus. next
- * is the next nucleus's frame or TIKUWERO_NONE. The masks may differ in length, and start may be
- * above end.
+/* Whether the syllable start..end dies away in creak: after its last pitched frame come five or
+ * more frames of unpitched vowel speech, which do not run on into the next nucleus. next is the
+ * next nucleus's frame or TIKUWERO_NONE. The masks may differ in length, start may be above end,
+ * and next may lie anywhere.
  *
- * Returns 1 for yes and 0 for no.
+ *   last     the last frame of start..end that is marked in pitched; where there is none, the
+ *            answer is 0;
+ *   stop     next, but p where next is TIKUWERO_NONE or above p;
+ *   the run  the frames from last + 1 on, as long as they are below stop, marked in vowel_speech
+ *            and not marked in pitched. It may go on past end;
+ *   after    the frame right after the run: last + 1 plus the run's length.
+ *
+ * Returns 1 where the run has 5 frames or more and is not joined to the next nucleus, else 0. It is
+ * joined exactly if there is a next nucleus and after is at or past stop or is marked in pitched.
+ * So without a next nucleus only the run's length counts. With one, a run that reaches next, the
+ * end of the pitch mask or a pitched frame is joined, and one that ends at an unpitched frame
+ * without vowel speech is not.
  *
  * Refuses with 3: p or v above TIKUWERO_MAX_MASK; 5: a mask byte above 1, start or end above
  * TIKUWERO_LAST_FRAME, or next above it and not TIKUWERO_NONE. */

@@ -1,0 +1,60 @@
+//! Makes each of the smaller calls once or twice, on worked examples, as calls.c does, and decodes the record in the file
+//! that its argument names.
+
+mod tikuwero;
+
+use tikuwero::{Desk, Refusal};
+
+fn rates() {
+    let frames = [60, 10, 30];
+    println!("rate {:?}", tikuwero::rate_s(&frames, 0.2));
+    println!("rate of no frames {:?}", tikuwero::rate_s(&[], 0.2));
+    println!("rate refused {:?}", tikuwero::rate_s(&frames, f64::NAN));
+}
+
+fn spans() {
+    let nuclei = [13, 10, 13];
+    let spans = tikuwero::tbu_spans(&nuclei, &[], 5, 20);
+    let words = spans.map(|s| s.iter().map(|s| (s.start, s.end)).collect::<Vec<_>>());
+    println!("spans {words:?}");
+    let refusal = tikuwero::tbu_spans(&[4096], &[], 5, 20).err();
+    println!("spans refused {:?}", refusal.map(Refusal::word));
+}
+
+/// Twenty frames, all at voice level; pitch ends at frame 10, where creak sets in.
+fn marks() {
+    let mut voice = [1; 20];
+    let pitched: [u8; 20] = std::array::from_fn(|frame| u8::from(frame < 10));
+    println!(
+        "start joined {:?}",
+        tikuwero::joins(&voice, &pitched, 6, 12)
+    );
+    println!("end joined {:?}", tikuwero::joins(&voice, &pitched, 12, 6));
+    for next in [None, Some(16), Some(u32::MAX)] {
+        let creaky = tikuwero::creaky_tail(2, 12, next, &pitched, &voice);
+        println!("creaky tail before {next:?}: {creaky:?}");
+    }
+    voice[19] = 2;
+    println!(
+        "joins refused {:?}",
+        tikuwero::joins(&voice, &pitched, 6, 12)
+    );
+}
+
+/// The id of the best candidate: a `match` on the answer as the last expression, with the desk and the record still here.
+fn best(file: &str) -> Result<u32, Refusal> {
+    let record = std::fs::read(file).expect("the file can be read");
+    let mut desk = Desk::default();
+    match desk.decode(&record) {
+        Ok(mut entries) => Ok(entries.next().map_or(0, |entry| entry.id())),
+        Err(refusal) => Err(refusal),
+    }
+}
+
+fn main() {
+    rates();
+    spans();
+    marks();
+    let file = std::env::args().nth(1).expect("the argument is a file");
+    println!("best candidate {:?}", best(&file));
+}

@@ -1,0 +1,403 @@
+/* Calls of the five entries with the answers that the header's text foretells, worked out before they were made. Decoding is
+ * given the sample phrase on standard input, altered at places that docs/FORMAT.md names; the scores are foretold by that page.
+ * Prints how many of each entry came out as foretold; the exit status is 1 if one did not. */
+#include <inttypes.h>
+#include <math.h>
+#include <stdio.h>
+#include <string.h>
+
+#include "tikuwero.h"
+
+#define COUNT(list) (sizeof(list) / sizeof((list)[0]))
+#define UNTOUCHED UINT32_C(0xdeadbeef)
+#define NONE TIKUWERO_NONE
+
+static int missed;
+
+static uint64_t double_bits(double x)
+{
+    uint64_t bits;
+    memcpy(&bits, &x, sizeof bits);
+    return bits;
+}
+
+static void conclude(const char *entry, size_t held, size_t all)
+{
+    printf("%s: %zu of %zu as foretold\n", entry, held, all);
+    missed += held != all;
+}
+
+/* Says which case is not as foretold; gives 1 for one that is. */
+static size_t held(const char *entry, size_t i, int as_foretold, int32_t returned)
+{
+    if (!as_foretold)
+        printf("%s, case %zu: returned %" PRId32 "\n", entry, i, returned);
+    return as_foretold != 0;
+}
+
+/* ---- tikuwero_rate_s; frames past the eighth are 0 */
+
+struct rate_case {
+    uint32_t frames[8];
+    size_t n;
+    double default_s;
+    int32_t returned;
+    double rate; /* where 0 is returned */
+};
+
+static const struct rate_case rates[] = {
+    {{0, 10, 30}, 3, 0.2, 0, 15 * 0.01},
+    {{30, 0, 10}, 3, 0.2, 0, 15 * 0.01},
+    {{60, 10, 30}, 3, 0.2, 0, 25 * 0.01},
+    {{0, 1, 3, 7, 15}, 5, 0.2, 0, 3 * 0.01},
+    {{0, 1, 2, 4}, 4, 0.2, 0, 1 * 0.01},
+    {{0, 0, 1}, 3, 0.2, 0, 0.5 * 0.01},
+    {{5, 5, 9}, 3, 0.2, 0, 2 * 0.01},
+    {{5, 5, 5, 9}, 4, 0.2, 0, 0.2},
+    {{5, 5}, 2, 0.3, 0, 0.3},
+    {{7}, 1, -0.0, 0, -0.0},
+    {{0}, 0, -1000000.0, 0, -1000000.0},
+    {{0, 35}, 2, 0.2, 0, 35 * 0.01},
+    {{4095, 0}, 2, 0.2, 0, 4095 * 0.01},
+    {{0}, 64, 0.2, 0, 0.2},
+    {{0}, 65, NAN, -TIKUWERO_SIZE, 0},
+    {{4096}, 65, 0.2, -TIKUWERO_SIZE, 0},
+    {{4096}, 1, NAN, -TIKUWERO_TRACK, 0},
+    {{0, 10}, 2, NAN, -TIKUWERO_COST, 0},
+    {{0, 10}, 2, INFINITY, -TIKUWERO_COST, 0},
+    {{0}, 0, 1000000.5, -TIKUWERO_COST, 0},
+};
+
+static void foretell_rates(void)
+{
+    size_t as_foretold = 0;
+    for (size_t i = 0; i < COUNT(rates); i++) {
+        const struct rate_case *c = &rates[i];
+        uint32_t frames[TIKUWERO_MAX_FRAMES + 1] = {0};
+        memcpy(frames, c->frames, sizeof c->frames);
+        double rate = -7.0;
+        int32_t returned = tikuwero_rate_s(frames, c->n, c->default_s, &rate);
+        double left = c->returned < 0 ? -7.0 : c->rate;
+        int same = returned == c->returned && double_bits(rate) == double_bits(left);
+        as_foretold += held("rate_s", i, same, returned);
+    }
+    conclude("rate_s", as_foretold, COUNT(rates));
+}
+
+/* ---- tikuwero_tbu_spans; frames past the fourth are 0 */
+
+struct spans_case {
+    uint32_t nuclei[4];
+    size_t n;
+    uint32_t bounds[4];
+    size_t b;
+    uint32_t lo_edge, hi_edge;
+    size_t out_len;
+    int32_t returned;
+    uint32_t words[6]; /* two for each span */
+};
+
+static const struct spans_case spans[] = {
+    {{10}, 1, {0}, 0, 12, 5, 8, 1, {10, 11}},
+    {{10}, 1, {4, 14}, 2, 0, 20, 2, 1, {4, 14}},
+    {{10}, 1, {14, 4, 4, 30}, 4, 0, 20, 8, 1, {4, 14}},
+    {{10}, 1, {10}, 1, 2, 20, 8, 1, {2, 20}},
+    {{13, 10, 13}, 3, {0}, 0, 5, 20, 4, 2, {5, 12, 12, 20}},
+    {{10, 11}, 2, {0}, 0, 0, 20, 8, 2, {0, 11, 11, 20}},
+    {{30, 20, 10}, 3, {0}, 0, 0, 40, 8, 3, {0, 15, 15, 25, 25, 40}},
+    {{10, 20, 30}, 3, {25}, 1, 0, 40, 8, 3, {0, 15, 15, 25, 25, 40}},
+    {{10, 20}, 2, {10, 15, 20}, 3, 0, 30, 8, 2, {0, 15, 15, 30}},
+    {{10, 20}, 2, {12, 18}, 2, 0, 30, 8, 2, {0, 12, 18, 30}},
+    {{10, 20}, 2, {20}, 1, 0, 30, 8, 2, {0, 15, 15, 30}},
+    {{10, 20}, 2, {15}, 1, 12, 5, 8, 2, {10, 15, 15, 21}},
+    {{4095}, 1, {0}, 0, 4095, 0, 8, 1, {4095, 4096}},
+    {{10, 10}, 2, {0}, 0, 5, 20, 2, 1, {5, 20}},
+    {{0}, 0, {9}, 1, 5, 20, 0, 0, {0}},
+    {{10, 13}, 2, {0}, 0, 5, 20, 3, -TIKUWERO_DESK, {0}},
+    {{0}, 0, {0}, 0, 4096, 20, 8, -TIKUWERO_TRACK, {0}},
+    {{10}, 1, {4096}, 1, 5, 20, 0, -TIKUWERO_TRACK, {0}},
+    {{4096}, 65, {0}, 0, 5, 20, 0, -TIKUWERO_SIZE, {0}},
+    {{10}, 1, {0}, 65, 5, 20, 8, -TIKUWERO_SIZE, {0}},
+};
+
+static void foretell_spans(void)
+{
+    size_t as_foretold = 0;
+    for (size_t i = 0; i < COUNT(spans); i++) {
+        const struct spans_case *c = &spans[i];
+        uint32_t nuclei[TIKUWERO_MAX_FRAMES + 1] = {0}, bounds[TIKUWERO_MAX_FRAMES + 1] = {0}, out[8], left[8];
+        memcpy(nuclei, c->nuclei, sizeof c->nuclei);
+        memcpy(bounds, c->bounds, sizeof c->bounds);
+        for (size_t k = 0; k < COUNT(out); k++) {
+            out[k] = UNTOUCHED;
+            left[k] = c->returned > 0 && k < 2 * (size_t)c->returned ? c->words[k] : UNTOUCHED;
+        }
+        int32_t returned = tikuwero_tbu_spans(nuclei, c->n, bounds, c->b, c->lo_edge, c->hi_edge, out, c->out_len);
+        int same = returned == c->returned && memcmp(out, left, sizeof out) == 0;
+        as_foretold += held("tbu_spans", i, same, returned);
+    }
+    conclude("tbu_spans", as_foretold, COUNT(spans));
+}
+
+/* ---- the two calls on masks; a mask has so many frames, of which the text gives the first ones and, by its last
+ * character, all after them */
+
+struct mask {
+    const char *text;
+    size_t frames;
+};
+
+static uint8_t *filled(struct mask mask, uint8_t *frames)
+{
+    size_t last = strlen(mask.text) - 1;
+    for (size_t i = 0; i < mask.frames; i++)
+        frames[i] = (uint8_t)(mask.text[i < last ? i : last] - '0');
+    return frames;
+}
+
+static uint8_t one_mask[TIKUWERO_MAX_MASK + 1], other_mask[TIKUWERO_MAX_MASK + 1];
+
+struct joins_case {
+    struct mask voice, pitched;
+    uint32_t start, end;
+    int32_t returned;
+};
+
+static const struct joins_case joins[] = {
+    {{"1", 6}, {"1", 4}, 3, 3, 3},
+    {{"1", 5}, {"1", 4}, 3, 3, 0},
+    {{"1", 6}, {"1", 3}, 3, 3, 0},
+    {{"1", 6}, {"1", 4}, 2, 3, 2},
+    {{"1", 6}, {"1", 5}, 3, 4, 1},
+    {{"1", 7}, {"1", 5}, 4, 3, 3},
+    {{"11101", 10}, {"1", 10}, 3, 7, 2},
+    {{"1", 10}, {"111101", 10}, 3, 5, 1},
+    {{"1", 10}, {"111101", 10}, 8, 7, 0},
+    {{"1", 10}, {"1", 40}, 7, 8, 1},
+    {{"1", 0}, {"1", 0}, 0, 0, 0},
+    {{"1", 2048}, {"1", 2048}, 3, 2045, 3},
+    {{"1", 2048}, {"1", 2048}, 2046, 4095, 0},
+    {{"11111111112", 11}, {"1", 20}, 3, 3, -TIKUWERO_TRACK},
+    {{"1", 20}, {"12", 20}, 3, 3, -TIKUWERO_TRACK},
+    {{"1", 20}, {"1", 20}, 3, 4096, -TIKUWERO_TRACK},
+    {{"1", 2049}, {"2", 20}, 3, 4096, -TIKUWERO_SIZE},
+    {{"1", 20}, {"1", 2049}, 3, 3, -TIKUWERO_SIZE},
+};
+
+static void foretell_joins(void)
+{
+    size_t as_foretold = 0;
+    for (size_t i = 0; i < COUNT(joins); i++) {
+        const struct joins_case *c = &joins[i];
+        int32_t returned = tikuwero_joins(filled(c->voice, one_mask), c->voice.frames, filled(c->pitched, other_mask),
+                                          c->pitched.frames, c->start, c->end);
+        as_foretold += held("joins", i, returned == c->returned, returned);
+    }
+    conclude("joins", as_foretold, COUNT(joins));
+}
+
+struct tail_case {
+    uint32_t start, end, next;
+    struct mask pitched, vowel_speech;
+    int32_t returned;
+};
+
+/* Pitch up to frame 9; in the second mask also at frame 15. */
+#define PITCH_TO_9 {"11111111110", 20}
+#define PITCH_AT_15 {"11111111110000010", 20}
+
+static const struct tail_case tails[] = {
+    {2, 12, NONE, PITCH_TO_9, {"1", 20}, 1},
+    {2, 12, 16, PITCH_TO_9, {"1", 20}, 0},
+    {2, 12, 20, PITCH_TO_9, {"1", 20}, 0},
+    {2, 12, 4095, PITCH_TO_9, {"1", 20}, 0},
+    {2, 12, NONE, PITCH_TO_9, {"1", 15}, 1},
+    {2, 12, NONE, PITCH_TO_9, {"1", 14}, 0},
+    {2, 12, 16, PITCH_TO_9, {"1", 15}, 1},
+    {2, 12, 15, PITCH_TO_9, {"1", 15}, 0},
+    {2, 12, 4095, PITCH_TO_9, {"1", 19}, 1},
+    {2, 12, 5, PITCH_TO_9, {"1", 20}, 0},
+    {2, 12, NONE, PITCH_TO_9, {"1111111111110", 20}, 0},
+    {2, 12, NONE, PITCH_AT_15, {"1", 20}, 1},
+    {2, 12, 18, PITCH_AT_15, {"1", 20}, 0},
+    {2, 20, NONE, PITCH_AT_15, {"1", 20}, 0},
+    {9, 10, NONE, PITCH_TO_9, {"1", 20}, 1},
+    {9, 9, NONE, PITCH_TO_9, {"1", 20}, 0},
+    {10, 15, NONE, PITCH_TO_9, {"1", 20}, 0},
+    {12, 2, NONE, PITCH_TO_9, {"1", 20}, 0},
+    {2, 4095, NONE, PITCH_TO_9, {"1", 2048}, 1},
+    {2, 12, NONE, {"11111111110", 15}, {"1", 20}, 1},
+    {2, 12, NONE, {"11111111110", 14}, {"1", 20}, 0},
+    {2, 12, 17, {"11111111110", 15}, {"1", 20}, 0},
+    {2, 12, 4096, PITCH_TO_9, {"1", 20}, -TIKUWERO_TRACK},
+    {2, 12, NONE - 1, PITCH_TO_9, {"1", 20}, -TIKUWERO_TRACK},
+    {4096, 12, NONE, PITCH_TO_9, {"1", 20}, -TIKUWERO_TRACK},
+    {2, 12, NONE, PITCH_TO_9, {"12", 20}, -TIKUWERO_TRACK},
+    {2, 12, 4096, PITCH_TO_9, {"2", 2049}, -TIKUWERO_SIZE},
+};
+
+static void foretell_tails(void)
+{
+    size_t as_foretold = 0;
+    for (size_t i = 0; i < COUNT(tails); i++) {
+        const struct tail_case *c = &tails[i];
+        int32_t returned =
+            tikuwero_creaky_tail(c->start, c->end, c->next, filled(c->pitched, one_mask), c->pitched.frames,
+                                 filled(c->vowel_speech, other_mask), c->vowel_speech.frames);
+        as_foretold += held("creaky_tail", i, returned == c->returned, returned);
+    }
+    conclude("creaky_tail", as_foretold, COUNT(tails));
+}
+
+/* ---- tikuwero_decode */
+
+#define SAMPLE_BYTES 1376
+#define CELLS TIKUWERO_WORK_CELLS
+#define SPARE 4 /* cells that are lent beyond those needed, or not lent at all */
+
+struct change {
+    size_t at, bytes; /* 0 bytes: no change */
+    uint64_t value;
+};
+
+/* The first ten words of an entry; all after them are foretold to be 0. */
+struct entry {
+    uint32_t words[10];
+};
+
+struct decode_case {
+    size_t record_len; /* bytes before the sample are 0 */
+    size_t best_len, back_len, out_len;
+    struct change changes[2];
+    int32_t returned;
+    struct entry entries[2];
+};
+
+#define LENT SAMPLE_BYTES, CELLS, CELLS, TIKUWERO_MAX_OUT
+#define ENTRY_3 {{3, 0xc0100000, 0, 1, 4, 14, 0}}
+#define ENTRY_9 {{9, 0xc1000000, 4, 2, 4, 4, NONE, 4, 4, NONE}}
+#define NO_ENTRIES {{{0}}, {{0}}}
+
+static const struct decode_case decodes[] = {
+    {LENT, {{0}}, 2, {ENTRY_3, ENTRY_9}},
+    {SAMPLE_BYTES, CELLS + SPARE, CELLS + SPARE, 104, {{0}}, 2, {ENTRY_3, ENTRY_9}},
+    {0, 0, 0, 0, {{0}}, -TIKUWERO_STUB, NO_ENTRIES},
+    {63, CELLS, CELLS, 104, {{0}}, -TIKUWERO_STUB, NO_ENTRIES},
+    {65536, CELLS, CELLS, 104, {{0}}, 2, {ENTRY_3, ENTRY_9}},
+    {65537, CELLS, CELLS, 104, {{0}}, -TIKUWERO_STUB, NO_ENTRIES},
+    {LENT, {{1312, 4, 2}, {0, 1, 2}}, -TIKUWERO_EDITION, NO_ENTRIES},
+    {LENT, {{1316, 4, 2049}}, -TIKUWERO_SIZE, NO_ENTRIES},
+    {LENT, {{1356, 4, 0}}, -TIKUWERO_SIZE, NO_ENTRIES},
+    {LENT, {{1348, 4, 1}}, -TIKUWERO_SIZE, NO_ENTRIES},
+    {LENT, {{1320, 4, 1313}}, -TIKUWERO_REACH, NO_ENTRIES},
+    {LENT, {{0, 1, 2}}, -TIKUWERO_TRACK, NO_ENTRIES},
+    {LENT, {{28, 4, 4}}, -TIKUWERO_TRACK, NO_ENTRIES},
+    {LENT, {{84, 8, UINT64_C(0x7ff8000000000000)}, {1364, 4, 0}}, -TIKUWERO_COST, NO_ENTRIES},
+    {LENT, {{1364, 4, 0}}, -TIKUWERO_BARE, NO_ENTRIES},
+    {LENT, {{60, 4, 9}, {64, 4, 17}}, -TIKUWERO_TWICE, NO_ENTRIES},
+    {LENT, {{40, 4, 17}}, -TIKUWERO_UNITS, NO_ENTRIES},
+    {LENT, {{44, 1, 1}, {60, 4, 9}}, -TIKUWERO_COLUMN, NO_ENTRIES},
+    {LENT, {{46, 1, 1}}, 2, {ENTRY_3, ENTRY_9}},
+    {SAMPLE_BYTES, CELLS - 1, CELLS, 104, {{0}}, -TIKUWERO_DESK, NO_ENTRIES},
+    {SAMPLE_BYTES, CELLS, CELLS - 1, 104, {{0}}, -TIKUWERO_DESK, NO_ENTRIES},
+    {SAMPLE_BYTES, CELLS, CELLS, 103, {{0}}, -TIKUWERO_DESK, NO_ENTRIES},
+    {SAMPLE_BYTES, CELLS, CELLS, 52, {{1364, 4, 1}}, 1, {ENTRY_9, {{0}}}},
+    /* no speech: no pass, so k times the unvoiced score, and empty spans at 0 */
+    {LENT, {{104, 8, UINT64_MAX}}, 2,
+     {{{3, 0xc0800000, 4, 1, 0, 0, NONE}}, {{9, 0xc1000000, 4, 2, 0, 0, NONE, 0, 0, NONE}}}},
+    /* the only nucleus is outside the mask */
+    {LENT, {{7, 1, 0}}, 2,
+     {{{3, 0xc0800000, 5, 1, 4, 4, NONE}}, {{9, 0xc1000000, 5, 2, 4, 4, NONE, 4, 4, NONE}}}},
+    /* the unvoiced score is -0 and no nucleus within the mask: equal scores keep the record's order */
+    {LENT, {{7, 1, 0}, {100, 4, 0x80000000}}, 2,
+     {{{9, 0x80000000, 5, 2, 4, 4, NONE, 4, 4, NONE}}, {{3, 0x80000000, 5, 1, 4, 4, NONE}}}},
+    /* the score is 5.25, so that candidate 3 has -2 + (5.25 - 0.25) - 3 = +0, and candidate 9 has 2 * -0 */
+    {LENT, {{32, 4, 0x40a80000}, {100, 4, 0x80000000}}, 2,
+     {{{3, 0, 0, 1, 4, 14, 0}}, {{9, 0x80000000, 4, 2, 4, 4, NONE, 4, 4, NONE}}}},
+    /* a frame costs nothing: 3 - 0.25 is left */
+    {LENT, {{84, 8, 0}}, 2, {{{3, 0x40300000, 0, 1, 4, 14, 0}}, ENTRY_9}},
+};
+
+/* One byte more than a record may have; the sample stands at its end. */
+static uint8_t sample[SAMPLE_BYTES], record[TIKUWERO_MAX_RECORD + 1];
+static double best[CELLS + SPARE];
+static uint32_t back[CELLS + SPARE], out[TIKUWERO_MAX_OUT + SPARE];
+
+static const uint8_t *altered(const struct decode_case *c)
+{
+    uint8_t *at = record + sizeof record - SAMPLE_BYTES;
+    memset(record, 0, sizeof record);
+    memcpy(at, sample, SAMPLE_BYTES);
+    for (size_t k = 0; k < COUNT(c->changes); k++)
+        for (size_t i = 0; i < c->changes[k].bytes; i++)
+            at[c->changes[k].at + i] = (uint8_t)(c->changes[k].value >> 8 * i);
+    return record + sizeof record - c->record_len;
+}
+
+/* Every cell of the work areas and every word of the output. */
+static int lent_as_foretold(const struct decode_case *c)
+{
+    int same = 1;
+    size_t entries = c->returned < 0 ? 0 : (size_t)c->returned;
+    for (size_t i = 0; i < COUNT(best); i++) {
+        int used = c->returned > 0 && i < CELLS;
+        same &= double_bits(best[i]) == (used ? 0 : double_bits(-7.0)) && back[i] == (used ? 0 : UNTOUCHED);
+    }
+    for (size_t i = 0; i < COUNT(out); i++) {
+        size_t entry = i / TIKUWERO_ENTRY_WORDS, word = i % TIKUWERO_ENTRY_WORDS;
+        uint32_t written = entry < entries && word < 10 ? c->entries[entry].words[word] : 0;
+        same &= out[i] == (entry < entries ? written : UNTOUCHED);
+    }
+    return same;
+}
+
+static void foretell_decodes(void)
+{
+    size_t as_foretold = 0;
+    for (size_t i = 0; i < COUNT(decodes); i++) {
+        const struct decode_case *c = &decodes[i];
+        for (size_t k = 0; k < COUNT(best); k++) {
+            best[k] = -7.0;
+            back[k] = UNTOUCHED;
+        }
+        for (size_t k = 0; k < COUNT(out); k++)
+            out[k] = UNTOUCHED;
+        int32_t returned =
+            tikuwero_decode(altered(c), c->record_len, best, c->best_len, back, c->back_len, out, c->out_len);
+        as_foretold += held("decode", i, returned == c->returned && lent_as_foretold(c), returned);
+    }
+    conclude("decode", as_foretold, COUNT(decodes));
+}
+
+/* ---- the words */
+
+static void foretell_words(void)
+{
+    static const char *const refusals[] = {"stub", "edition", "size",  "reach",  "track", "cost",
+                                           "bare", "twice",   "units", "column", "desk"};
+    static const char *const passes[] = {"nuclei-strict",  "count-strict", "count-relaxed",
+                                         "nuclei-relaxed", "none",         "unvoiced"};
+    size_t as_foretold = 0;
+    for (int32_t i = 0; i < 11; i++)
+        as_foretold += strcmp(tikuwero_refusal_word(-1 - i), refusals[i]) == 0;
+    for (uint32_t i = 0; i < 6; i++)
+        as_foretold += strcmp(tikuwero_pass_word(i), passes[i]) == 0;
+    as_foretold += tikuwero_refusal_word(0) == NULL && tikuwero_refusal_word(5) == NULL;
+    as_foretold += tikuwero_refusal_word(-12) == NULL && tikuwero_pass_word(6) == NULL;
+    conclude("words", as_foretold, 19);
+}
+
+int main(void)
+{
+    if (fread(sample, 1, SAMPLE_BYTES, stdin) != SAMPLE_BYTES) {
+        printf("standard input is not the sample phrase\n");
+        return 1;
+    }
+    foretell_rates();
+    foretell_spans();
+    foretell_joins();
+    foretell_tails();
+    foretell_decodes();
+    foretell_words();
+    return missed != 0;
+}
