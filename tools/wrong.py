@@ -19,7 +19,7 @@ from collections import namedtuple
 from pathlib import Path
 
 TOP = Path(__file__).resolve().parent.parent
-PROGRAMS = {"ieee_vectors", "record_tests", "evidence_tests", "printing", "listing", "listings", "replay"}
+PROGRAMS = {"ieee_vectors", "record_tests", "evidence_tests", "listing", "listings", "replay"}
 HEAD = re.compile(r'^ *(pub(?:\(crate\))? )?(?:extern "C" )?(?:fn|const) (\w+)', re.M)
 USE = re.compile(r"\b(\w+)\(|\b([A-Z][A-Z0-9_]+)\b")
 MISSED = re.compile(r"/(?:proofs|src)/(\S+?)(?:/Proof.antt)?:\d+:\d+: (?:error: `([^`]+)`|it is not proved .*\(`([^`]+)`)")

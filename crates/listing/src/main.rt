@@ -4,7 +4,7 @@ use io::read_full;
 use libc::STDIN_FILENO;
 use printing::print_listing;
 
-// A byte more than the longest record has, so that one that is longer still is refused.
+// A byte more than the longest record has: enough to refuse an input that is longer still, by 1, as all of it would be.
 const MOST_BYTES: usize = 65537;
 
 fn main() {

@@ -1,0 +1,6 @@
+-- Laws of the listing.
+mod Turns
+mod EntryLines
+mod Decoded
+mod SampleListing
+mod LongInput

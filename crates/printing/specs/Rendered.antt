@@ -1,0 +1,32 @@
+-- What rendering a listing promises, and how much room it asks for.
+use Prim.Native.Nat.{ℕ, _+_, _*_, _≤_}
+use mathlib.Core.List.{List, _++_}
+use mathlib.Core.Path.{_≡_}
+use lib.ListN.{length, drop}
+use Rattle.record.specs.declared.limits.Limits.{Limits}
+use Rattle.record.specs.Edition.{edition1}
+use Rattle.printing.specs.Listing.{listingOf}
+
+-- The most bytes of each part, where a number is a u32 and so has ten digits at most: "decoded M" or "refused N", the line of a candidate,
+-- that of a unit, all lines of an entry with `most` units.
+abbrev pub firstLineBytes : ℕ
+firstLineBytes = 19
+
+abbrev pub headLineBytes : ℕ
+headLineBytes = 56
+
+abbrev pub unitLineBytes : ℕ
+unitLineBytes = 33
+
+abbrev pub entryBytes : ℕ → ℕ
+entryBytes most = headLineBytes + unitLineBytes * most
+
+-- room for the listing of every record of an edition
+abbrev pub listingBytes : Limits → ℕ
+listingBytes l = firstLineBytes + entryBytes (l .units) * l .candidates
+
+-- The listing stands at the front of the buffer, its length is the answer, and the bytes past it are untouched.
+pub record Rendered (bytes out : List ℕ) (count : ℕ) (out′ : List ℕ) : Type 0 where
+  pub counted : count ≡ length (listingOf bytes)
+  pub enough : length (listingOf bytes) ≤ listingBytes edition1
+  pub written : out′ ≡ listingOf bytes ++ drop (length (listingOf bytes)) out
