@@ -6,6 +6,8 @@ pub mod Admitted
 pub mod Demands
 pub mod Decodes
 pub mod OneOutcome
+pub mod Alike
 mod Group
 mod Examples
+mod AlikeExamples
 mod ShutOut

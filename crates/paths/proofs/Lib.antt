@@ -26,3 +26,5 @@ pub mod PhraseFigures
 pub mod Answers
 pub mod PhraseExamples
 pub mod FrameExamples
+pub mod AgreeingProblems
+pub mod Alike

@@ -19,3 +19,4 @@ pub mod Table
 pub mod PathSystem
 pub mod Finite
 pub mod Bounded
+pub mod Alike
