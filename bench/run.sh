@@ -1,5 +1,5 @@
 #!/bin/sh
-# Builds the driver, prints the ratios ours/original (exit status 1 if one is above 0.5; with `print`, 0), then the
+# Builds the driver, prints the ratios ours/original (exit status 1 if one is above its target; with `print`, 0), then the
 # instructions of one decode as callgrind counts them: two runs of different length, so that starting up cancels.
 # Needs target/staticlib/libtikuwero.a, which `rt staticlib tikuwero` writes.
 set -eu

@@ -1,6 +1,6 @@
 //! The original and ours on the same records, in one run.
 //!
-//! bench                    the ratio ours/original for each record; the exit status is 1 if one is above 0.5
+//! bench                    the ratio ours/original for each record; the exit status is 1 if one is above its target
 //! bench print              the same, but the exit status is 0
 //! bench SIDE RECORD COUNT  `ours` or `original` on `typical`, `maximal` or `heaviest`, COUNT times, for a profiler
 //! bench growth             how cost grows, as a table
@@ -15,30 +15,28 @@ use sides::{agreed_passes, Original, Ours};
 use std::hint::black_box;
 use std::process::exit;
 
-/// Ours takes at most this part of the original's time.
-const TARGET: f64 = 0.5;
-
 const NUCLEI_STRICT: u32 = 0;
 const COUNT_RELAXED: u32 = 2;
 
-/// Name, record, the pass that each candidate's path is found in, and the number of rounds.
-fn records() -> [(&'static str, Phrase, u32, usize); 3] {
+/// Name, record, the pass that each candidate's path is found in, the number of rounds, and the part of the
+/// original's time that ours takes at most.
+fn records() -> [(&'static str, Phrase, u32, usize, f64); 3] {
     [
-        ("typical", records::typical(), NUCLEI_STRICT, 20_000),
-        ("maximal", records::maximal(), NUCLEI_STRICT, 2_000),
+        ("typical", records::typical(), NUCLEI_STRICT, 20_000, 0.29),
+        ("maximal", records::maximal(), NUCLEI_STRICT, 2_000, 0.29),
         // the last pass of three, so all of them run
-        ("heaviest", records::heaviest(), COUNT_RELAXED, 500),
+        ("heaviest", records::heaviest(), COUNT_RELAXED, 500, 0.18),
     ]
 }
 
-/// Prints the ratios; gives the largest.
-fn ratios() -> f64 {
+/// Prints the ratios; whether each is within its target.
+fn ratios() -> bool {
     println!(
         "| Record | Ours, µs | Original, µs | Ratio of the minima | of the medians | Rounds |"
     );
     println!("|---|---|---|---|---|---|");
-    let mut largest = 0.0f64;
-    for (name, phrase, pass, rounds) in records() {
+    let mut met = true;
+    for (name, phrase, pass, rounds, target) in records() {
         let passes = agreed_passes(name, &phrase);
         assert!(passes.iter().all(|&p| p == pass), "{name}: {passes:?}");
         let (ours, original) = timing::interleaved(&phrase, rounds);
@@ -49,9 +47,9 @@ fn ratios() -> f64 {
             original.least() * 1e6,
             ours.median() / original.median(),
         );
-        largest = largest.max(ratio);
+        met &= ratio <= target;
     }
-    largest
+    met
 }
 
 /// Runs one side alone.
@@ -85,7 +83,7 @@ fn main() {
     let args: Vec<String> = std::env::args().skip(1).collect();
     let args: Vec<&str> = args.iter().map(String::as_str).collect();
     match args[..] {
-        [] => exit(i32::from(ratios() > TARGET)),
+        [] => exit(i32::from(!ratios())),
         ["print"] => {
             ratios();
         }

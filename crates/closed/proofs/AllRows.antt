@@ -11,10 +11,11 @@ use Rattle.paths.specs.Cell.{empty}
 use Rattle.paths.specs.CellRule.{rows}
 use Rattle.paths.specs.Marks.{marks}
 use Rattle.stages.specs.Tables.{StageTables}
-use Rattle.rows.specs.Rows.{HoldsAt, Same}
+use Rattle.rows.specs.Rows.{HoldsAt, Same, FirstRow}
 use Rattle.rows.proofs.Cells.{same-refl, same-trans, same-holds}
-use Rattle.closed.specs.Filled.{rowAt, FilledFirst, FilledNext, NextRow}
-use Rattle.closed.specs.Searched.{ScoresOf, unitsWith}
+use Rattle.rows.specs.Units.{UnitsOf, ReachedFrom}
+use Rattle.closed.specs.Filled.{rowAt, FilledNext, NextRow}
+use Rattle.closed.specs.Searched.{rowWith, scoresIn}
 use Rattle.closed.specs.Reported.{AllRows}
 use Rattle.closed.specs.Asked.{Asked, Agrees, cellsFor, Unused}
 
@@ -33,7 +34,7 @@ module _ (asked : Asked) where
 
   pub rows-begin :
       {best : List Float} {back : List ℕ} {best′ : List Float} {back′ : List ℕ} → Unused best back (cellsFor asked) →
-      FilledFirst (t .start) (t .gap) best back best′ back′ (t .size) → (q : Problem) → Agrees asked q →
+      FirstRow (t .start) (t .gap) best back best′ back′ (t .size) → (q : Problem) → Agrees asked q →
       RowsTo best′ back′ best′ back′ 0
   rows-begin {best} {back} {best′} {back′} clear first q₀ agrees₀ = record {
     bounded = omega arith;
@@ -55,7 +56,7 @@ module _ (asked : Asked) where
   -- beyond the cells that are used, what the first row left as it was
   pub first-rest :
       {best : List Float} {back : List ℕ} {best′ : List Float} {back′ : List ℕ} →
-      FilledFirst (t .start) (t .gap) best back best′ back′ (t .size) → (q : Problem) → Agrees asked q →
+      FirstRow (t .start) (t .gap) best back best′ back′ (t .size) → (q : Problem) → Agrees asked q →
       (at : ℕ) → cellsFor asked ≤ at → Same best back best′ back′ at
   first-rest first q agrees at h = first q (agrees .starts) (agrees .gaps) .rest at (omega arith)
 
@@ -63,12 +64,21 @@ module _ (asked : Asked) where
     pub next-fits : s * t .size + t .size + t .size ≤ cellsFor asked
     next-fits = omega (arith, row-within (t .size) more)
 
-    module _ {best′ : List Float} {back′ : List ℕ} (b : length best′ ≡ length best) (m : length back′ ≡ length back) (scores : List Float)
-        (given : ScoresOf (asked .phrase) (t .row) (t .size) (getD (asked .columns) s 0) scores)
-        (next : FilledNext (unitsWith t scores (asked .phrase .costs .«unvoiced») (asked .strictness)) (t .gap) best back best′ back′ (t .size) s) where
+    -- the scores that the code reads are those of the unit's column
+    units-read :
+        (score : ℕ → Float) → ((j : ℕ) → j < t .size → score j ≡ scoresIn (asked .phrase) t (getD (asked .columns) s 0) j) →
+        (q : Problem) → Agrees asked q → UnitsOf q s (rowWith t score (asked .phrase .costs) (asked .strictness)) (t .size)
+    units-read score same q agrees =
+        let units = agrees .units s more in
+        record { origins = units .origins; value = λ i j h k ok. rw (same j k) (units .value i j h k ok) }
+
+    module _ {best′ : List Float} {back′ : List ℕ} (b : length best′ ≡ length best) (m : length back′ ≡ length back) (score : ℕ → Float)
+        (same : (j : ℕ) → j < t .size → score j ≡ scoresIn (asked .phrase) t (getD (asked .columns) s 0) j)
+        (before : ℕ) (next : FilledNext (rowWith t score (asked .phrase .costs) (asked .strictness)) best back best′ back′ (t .size) s before)
+        (reach : (q : Problem) → Agrees asked q → ReachedFrom (rows q (marks q) s) (t .size) before) where
       reached : (q : Problem) → Agrees asked q → NextRow best back best′ back′ (t .size) s (rows q (marks q) (suc s))
       unfolding rows
-      reached q agrees = next q (agrees .gaps) (agrees .units s more scores given) (rows q (marks q) s) (was .filled q agrees s (omega arith))
+      reached q agrees = next q (agrees .gaps) (units-read score same q agrees) (rows q (marks q) s) (was .filled q agrees s (omega arith)) (reach q agrees)
 
       pub rows-more : (q : Problem) → Agrees asked q → RowsTo best₀ back₀ best′ back′ (s + 1)
       rows-more q₀ agrees₀ = record {

@@ -1,29 +1,28 @@
 -- The tables of a stage are those of its problems. Assumes nothing.
-use mathlib.Core.Bool.{Bool, true, false, cond, not, _&&_}
+use mathlib.Core.Bool.{Bool, true, false, not, cond}
 use mathlib.Core.List.{List, [], _∷_}
-use mathlib.Core.Path.{_≡_, refl, sym, ap, subst}
+use mathlib.Core.Path.{_≡_, refl, sym, ap, subst, _∙_}
 use Prim.Native.Nat.{ℕ, suc, _+_, _-_, _≤_, _<_}
-use native.Mathlib.Nat.{le-refl}
 use native.Mathlib.Omega.{arith}
-use lib.Dec.{T, leb, ltb, eqb, leb→le, ltb→lt}
+use lib.Dec.{T, leb, ltb, ltb→lt, nltb→le}
 use lib.Ieee.{Float, binary64, add}
+use lib.Ieee.Fits.{and-r}
 use lib.ListN.{length, getD}
-use lib.Ieee.Fits.{and-l}
-use Rattle.laws.proofs.Numbers.{by-order}
+use borrow.Author.Tests.{lt-ltb, le-ltb}
+use Rattle.laws.proofs.Tests.{by-test}
 use Rattle.phrase.specs.Phrase.{Phrase, Stage}
 use Rattle.paths.specs.declared.passes.Strictness.{Strictness}
+use Rattle.paths.specs.declared.passes.Strictness.the-variants.{Strict, Relaxed}
 use Rattle.paths.specs.Frames.{Increasing, withinMask}
-use Rattle.paths.specs.Anchors.{Anchor, select, numbered, keptIn, kept, rowOr}
-use Rattle.paths.specs.Units.{shortestUnit, longestUnit, fitsUnit}
-use Rattle.paths.specs.LookAhead.{ahead, frameOr, firstAhead, secondAhead, rowAhead}
-use Rattle.paths.specs.StageProblem.{unitValueOf, boundary, problemOf}
-use Rattle.paths.proofs.Frames.{increasing-le}
+use Rattle.paths.specs.Anchors.{Anchor, select, numbered, keptIn, kept, heldIn, rowOr}
+use Rattle.paths.specs.Ranges.{goesTo, lowOrigin, originsEnd, inRange, Origins, firstReached, before, lastOf, rowBefore}
+use Rattle.paths.specs.StageProblem.{scoreOf, unitValueOf, boundary, problemOf}
 use Rattle.paths.proofs.Rising.{Rising, kept-rising}
-use Rattle.paths.proofs.LookAhead.{holds-none, holds-more, admits-ahead, score-ahead}
+use Rattle.paths.proofs.Ranges.{origins, held-in-range, any-relaxed, one-in-range, strict-inside, fits-in-range}
+use Rattle.paths.proofs.Reached.{reached-same}
 use Rattle.stages.specs.Room.{most}
-use Rattle.stages.specs.Tables.{StageTables}
-use Rattle.stages.specs.Tables.{Tabled, beyond}
-use Rattle.closed.specs.Searched.{Readable}
+use Rattle.stages.specs.Tables.{StageTables, Tabled}
+use Rattle.closed.specs.Searched.{lowIn, endIn, Readable}
 use Rattle.closed.specs.Asked.{Agrees}
 
 -- ---- what holds of every anchor of a list
@@ -41,21 +40,6 @@ every-select {P = P} test (more {anchor = anchor} {anchors = anchors} h rest) = 
     go true r = more h r
     go false r = r
 
-every-passes : (test : Anchor → Bool) (anchors : List Anchor) → Every (λ anchor. T (test anchor)) (select test anchors)
-unfolding select
-every-passes test [] = none
-every-passes test (anchor ∷ anchors) = go (test anchor) refl (every-passes test anchors)
-  where
-    go :
-        (b : Bool) → test anchor ≡ b → Every (λ anchor. T (test anchor)) (select test anchors) →
-        Every (λ anchor. T (test anchor)) (cond b (anchor ∷ select test anchors) (select test anchors))
-    go true e r = more (subst T (sym e) tt) r
-    go false e r = r
-
-every-map : {P R : Anchor → Type 0} {anchors : List Anchor} → ((anchor : Anchor) → P anchor → R anchor) → Every P anchors → Every R anchors
-every-map f none = none
-every-map f (more {anchor = anchor} h rest) = more (f anchor h) (every-map f rest)
-
 -- rows are places: below the first row and the number of anchors
 numbered-rows : (row : ℕ) (frames : List ℕ) (most : ℕ) → row + length frames ≤ most → Every (λ anchor. anchor .row < most) (numbered row frames)
 unfolding numbered
@@ -68,31 +52,71 @@ row-below : {most : ℕ} {anchors : List Anchor} → 0 < most → Every (λ anch
 row-below h none = h
 row-below h (more r rest) = r
 
-frame-below : {anchors : List Anchor} → Every (λ anchor. anchor .frame ≤ beyond) anchors → frameOr beyond anchors ≤ beyond
-frame-below none = le-refl beyond
-frame-below (more h rest) = h
-
-within-below : (mask : List ℕ) (frame : ℕ) → T (withinMask mask frame) → frame < length mask
-unfolding withinMask
-within-below mask frame h = ltb→lt frame (length mask) (and-l (ltb frame (length mask)) (not (eqb (getD mask frame 0) 0)) h)
-
-fits-both : (frames : ℕ) → T (fitsUnit frames) → (shortestUnit ≤ frames) × (frames ≤ longestUnit)
-fits-both frames h = go (leb shortestUnit frames) (leb frames longestUnit) (leb→le shortestUnit frames) (leb→le frames longestUnit) h
-  where
-    go :
-        (a b : Bool) → (T a → shortestUnit ≤ frames) → (T b → frames ≤ longestUnit) → T (a && b) →
-        (shortestUnit ≤ frames) × (frames ≤ longestUnit)
-    go true b low high h = (low tt, high h)
-    go false b low high h = absurd h
+every-last : {P : Anchor → Type 0} {anchors : List Anchor} → Every P anchors → Every P (lastOf anchors)
+unfolding lastOf
+every-last none = none
+every-last (more h none) = more h none
+every-last (more h (more k rest)) = every-last (more k rest)
 
 module _ (phrase : Phrase) (stage : Stage) (t : StageTables) (tabled : Tabled phrase stage t) (anchorsUp : Increasing (stage .anchors))
-    (boundsUp : Increasing (stage .boundaries)) (few : length (stage .boundaries) ≤ most)
-    (last : (i : ℕ) → i < length (stage .boundaries) → boundary stage i ≤ beyond) (short : length (phrase .mask) ≤ beyond) where
+    (boundsUp : Increasing (stage .boundaries)) (few : length (stage .boundaries) ≤ most) where
   rising : Rising 0 (kept phrase stage)
   rising = kept-rising (phrase .mask) (stage .firstRow) (stage .anchors) anchorsUp
 
   counted : (i : ℕ) → i < t .size → i < length (stage .boundaries)
   counted i h = omega (arith, tabled .sized)
+
+  -- the origins of a strictness, as the tables have them
+  ranges : (strictness : Strictness) → Origins (λ i j. goesTo strictness (kept phrase stage) (stage .boundaries) j i) (t .size) (lowIn t) (endIn t strictness)
+  ranges strictness =
+      let all = origins (kept phrase stage) (stage .boundaries) boundsUp strictness in
+      record {
+        ranged = λ i j h k. all .ranged i j h (counted j k) ∙ rw (tabled .lows j k, tabled .ends strictness j k);
+        earlier = λ j h. rw (tabled .ends strictness j h) (all .earlier j (counted j h));
+      }
+
+  -- the unit of an origin in the range is admitted
+  admitted :
+      (strictness : Strictness) (i j : ℕ) → j < t .size → T (inRange (lowIn t j) (endIn t strictness j) i) →
+      (i < j) × T (goesTo strictness (kept phrase stage) (stage .boundaries) j i)
+  admitted strictness i j h inside =
+      let below : i < endIn t strictness j = ltb→lt i (endIn t strictness j) (and-r (leb (lowIn t j) i) (ltb i (endIn t strictness j)) inside) in
+      let before : i < j = omega (arith, ranges strictness .earlier j h) in
+      (before, subst T (sym (ranges strictness .ranged i j before h)) inside)
+
+  -- the score of an admitted unit, by where its origin stands in the range
+  scored :
+      (strictness : Strictness) (column i j : ℕ) → i < j → j < t .size → T (goesTo strictness (kept phrase stage) (stage .boundaries) j i) →
+      scoreOf phrase column (heldIn (kept phrase stage) (boundary stage i) (boundary stage j))
+      ≡ cond (ltb i (getD (t .middle) j 0)) (phrase .score (getD (t .row) j 0) column) (phrase .costs .«unvoiced»)
+  unfolding scoreOf
+  scored strictness column i j h k goes = by-test (ltb i (getD (t .middle) j 0))
+      (λ below. one-score (heldIn (kept phrase stage) (boundary stage i) (boundary stage j)) (one-in-range (kept phrase stage) (stage .boundaries) rising boundsUp i j h (counted j k) relaxed (omega (arith, tabled .ends Strict j k, ltb→lt i (getD (t .middle) j 0) below))) ∙ ap (λ (row : ℕ). phrase .score row column) (ap (rowOr 0) (held-as true (passes below)) ∙ sym (tabled .rows j k))
+      ∙ sym (ap choose (passes below)))
+      (λ above. ap (scoreOf phrase column) (held-as false (fails above)) ∙ sym (ap choose (fails above)))
+    where
+      relaxed : T (goesTo Relaxed (kept phrase stage) (stage .boundaries) j i)
+      relaxed = any-relaxed (kept phrase stage) (stage .boundaries) i j strictness goes
+
+      choose : Bool → Float
+      choose b = cond b (phrase .score (getD (t .row) j 0) column) (phrase .costs .«unvoiced»)
+
+      passes : T (ltb i (getD (t .middle) j 0)) → ltb i (getD (t .middle) j 0) ≡ true
+      passes below = lt-ltb i (getD (t .middle) j 0) (ltb→lt i (getD (t .middle) j 0) below)
+
+      fails : T (not (ltb i (getD (t .middle) j 0))) → ltb i (getD (t .middle) j 0) ≡ false
+      fails above = le-ltb i (getD (t .middle) j 0) (nltb→le i (getD (t .middle) j 0) above)
+
+      held-as :
+          (b : Bool) → ltb i (getD (t .middle) j 0) ≡ b →
+          heldIn (kept phrase stage) (boundary stage i) (boundary stage j) ≡ cond b (lastOf (before (kept phrase stage) (boundary stage j))) []
+      held-as b e =
+          held-in-range (kept phrase stage) (stage .boundaries) rising boundsUp i j h (counted j k) relaxed
+          ∙ ap (λ (c : Bool). cond c (lastOf (before (kept phrase stage) (boundary stage j))) []) (ap (ltb i) (sym (tabled .ends Strict j k)) ∙ e)
+
+      one-score : (l : List Anchor) → length l ≡ 1 → scoreOf phrase column l ≡ phrase .score (rowOr 0 l) column
+      one-score [] e = absurd (omega arith)
+      one-score (anchor ∷ l) e = refl
 
   pub agrees : (strictness : Strictness) (columns : List ℕ) →
       Agrees (record { phrase = phrase; columns = columns; strictness = strictness; tables = t }) (problemOf phrase stage strictness columns)
@@ -101,54 +125,40 @@ module _ (phrase : Phrase) (stage : Stage) (t : StageTables) (tabled : Tabled ph
     starts = tabled .started;
     gaps = tabled .gapped;
     stops = record { sized = sym (tabled .sized); costs = tabled .stopped };
-    units = λ s h scores given. record {
-      ok = λ i j l k.
-          rw (tabled .bounded j k, tabled .bounded i (omega arith), tabled .firsts i (omega arith), tabled .seconds i (omega arith))
-          (admits-ahead rising beyond (boundary stage i) (boundary stage j) (last j (counted j k)) strictness);
-      value = λ i j l k fits.
+    origins = ranges strictness;
+    units = λ s h. record {
+      origins = ranges strictness;
+      value = λ i j l k ok.
           let from : getD (t .bounds) i 0 ≡ boundary stage i = tabled .bounded i (omega arith) in
           let to : getD (t .bounds) j 0 ≡ boundary stage j = tabled .bounded j k in
-          let range = fits-both (getD (t .bounds) j 0 - getD (t .bounds) i 0) fits in
-          rw (tabled .durations (getD (t .bounds) j 0 - getD (t .bounds) i 0) (range .0) (range .1), given i (omega arith), tabled .rows i (omega arith), tabled .firsts i (omega arith), to, from)
-          (ap (λ (x : Float). add binary64 x (stage .duration (boundary stage j - boundary stage i)))
-          (score-ahead rising beyond (boundary stage i) (boundary stage j) (last j (counted j k)) 0 phrase (getD columns s 0)));
+          let fits = fits-in-range (kept phrase stage) (stage .boundaries) i j strictness ok in
+          rw (from, to, tabled .durations (boundary stage j - boundary stage i) (fits .0) (fits .1))
+          (ap (λ (x : Float). add binary64 x (stage .duration (boundary stage j - boundary stage i))) (scored strictness (getD columns s 0) i j l k ok));
     };
   }
-
-  in-mask : Every (λ anchor. anchor .frame ≤ beyond) (kept phrase stage)
-  unfolding keptIn
-  in-mask =
-      every-map (λ anchor passes. let below = within-below (phrase .mask) (anchor .frame) passes in omega arith)
-      (every-passes (λ anchor. withinMask (phrase .mask) (anchor .frame)) (numbered (stage .firstRow) (stage .anchors)))
-
-  first-below : (from : ℕ) → firstAhead beyond (kept phrase stage) from ≤ beyond
-  unfolding firstAhead ahead
-  first-below from = frame-below (every-select (λ anchor. leb from (anchor .frame)) in-mask)
-
-  -- the second anchor ahead is no earlier than the first: a unit up to the first holds none
-  two-ascend : (from : ℕ) → firstAhead beyond (kept phrase stage) from ≤ secondAhead beyond (kept phrase stage) from
-  two-ascend from =
-      let first = firstAhead beyond (kept phrase stage) from in
-      by-order (secondAhead beyond (kept phrase stage) from) first
-      (λ earlier.
-      let two = holds-more rising beyond from first (first-below from) earlier in
-      let nothing = ap (λ (l : List Anchor). length l) (holds-none rising beyond from first (first-below from) (le-refl first)) in
-      absurd (omega arith))
-      (λ h. h)
 
   rows-below : (scoreRows : ℕ) → stage .firstRow + length (stage .anchors) ≤ scoreRows → Every (λ anchor. anchor .row < scoreRows) (kept phrase stage)
   unfolding keptIn
   rows-below scoreRows most =
       every-select (λ anchor. withinMask (phrase .mask) (anchor .frame)) (numbered-rows (stage .firstRow) (stage .anchors) scoreRows most)
 
-  row-ahead : (scoreRows : ℕ) → 0 < scoreRows → stage .firstRow + length (stage .anchors) ≤ scoreRows → (from : ℕ) → rowAhead 0 (kept phrase stage) from < scoreRows
-  unfolding rowAhead ahead
-  row-ahead scoreRows some most from = row-below some (every-select (λ anchor. leb from (anchor .frame)) (rows-below scoreRows most))
+  row-before : (scoreRows : ℕ) → 0 < scoreRows → stage .firstRow + length (stage .anchors) ≤ scoreRows → (to : ℕ) → rowBefore 0 (kept phrase stage) to < scoreRows
+  unfolding before
+  row-before scoreRows some most to = row-below some (every-last (every-select (λ anchor. ltb (anchor .frame) to) (rows-below scoreRows most)))
 
-  pub readable : (scoreRows : ℕ) → 0 < scoreRows → stage .firstRow + length (stage .anchors) ≤ scoreRows → Readable t scoreRows
-  readable scoreRows some most = record {
+  pub readable :
+      (strictness : Strictness) (scoreRows : ℕ) → 0 < scoreRows → stage .firstRow + length (stage .anchors) ≤ scoreRows → Readable t strictness scoreRows
+  readable strictness scoreRows some most = record {
     few = omega (arith, tabled .sized);
-    ascending = λ i j h k. rw (tabled .bounded i (omega arith), tabled .bounded j k) (increasing-le (stage .boundaries) boundsUp i j h (counted j k));
-    anchors = λ i h. rw (tabled .firsts i h, tabled .seconds i h) (two-ascend (boundary stage i));
-    rows = λ i h. rw (tabled .rows i h) (row-ahead scoreRows some most (boundary stage i));
+    earlier = ranges strictness .earlier;
+    inside = λ j h. rw (tabled .ends Strict j h, tabled .ends strictness j h) (strict-inside (kept phrase stage) (stage .boundaries) strictness j);
+    fits = λ i j h inside.
+        let goes = admitted strictness i j h inside in
+        let fits = fits-in-range (kept phrase stage) (stage .boundaries) i j strictness (goes .1) in
+        rw (tabled .bounded i (omega arith), tabled .bounded j h) (omega (arith, fits .0), omega (arith, fits .1));
+    rows = λ i h. rw (tabled .rows i h) (row-before scoreRows some most (boundary stage i));
+    reached = λ s h. tabled .sinces strictness s h
+        ∙ reached-same (lowOrigin (kept phrase stage) (stage .boundaries)) (originsEnd strictness (kept phrase stage) (stage .boundaries)) (lowIn t) (endIn t strictness) (length (stage .boundaries))
+        (λ j k. sym (tabled .lows j (omega (arith, tabled .sized)))) (λ j k. sym (tabled .ends strictness j (omega (arith, tabled .sized)))) s
+        ∙ ap (λ (n : ℕ). firstReached (lowIn t) (endIn t strictness) n s) (sym (tabled .sized));
   }

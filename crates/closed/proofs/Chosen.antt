@@ -1,25 +1,26 @@
 -- Filled rows hold the path chosen: the end over the last row is its end, and the marks lead back to its units. Assumes nothing.
 use mathlib.Core.Bool.{Bool, true, false, cond}
-use mathlib.Core.List.{List}
+use mathlib.Core.List.{List, []}
 use mathlib.Core.Path.{_≡_, refl, sym, ap, subst, _∙_}
 use Prim.Native.Nat.{ℕ, zero, suc, _*_, _<_}
 use native.Mathlib.Nat.{le-refl}
 use native.Mathlib.Omega.{arith}
 use lib.Ieee.{Float, lt}
 use Rattle.paths.specs.Problem.{Problem}
-use Rattle.paths.specs.Path.{Path as Route, begin, gap, unit, end as endOf, sum, unitsOf}
+use Rattle.paths.specs.Path.{Path as Route, begin, gap, unit, end as endOf, sum, Bounds, unitsOf}
 use Rattle.paths.specs.Cell.{Cell, empty, held, keep, best as bestOf, carry}
 use Rattle.paths.specs.CellRule.{rows, paths, chosenPath}
 use Rattle.paths.specs.Marks.{Marked, marks, markAt, End as Ended, ended, Traces}
 use Rattle.paths.proofs.Cells.{held-same}
 use Rattle.paths.proofs.Marks.{Kept, kept-begin, kept-gap, kept-unit, rows-kept, end-chosen, marks-trace}
 use Rattle.rows.specs.declared.end.End.{End}
-use Rattle.rows.specs.declared.end.End.the-variants.{At, Nowhere}
+use Rattle.rows.specs.declared.trace.Units.{Units}
 use Rattle.rows.specs.Rows.{Holds, unreached, reached}
-use Rattle.rows.specs.Ends.{endCell, StopsOf, EndOf}
-use Rattle.rows.specs.Traced.{markIn}
+use Rattle.rows.specs.Ends.{endedBy, StopsOf, EndOf}
+use Rattle.rows.specs.Traced.{markIn, Traceable, UnitsAre}
 use Rattle.closed.specs.declared.path.Path.{Path}
-use Rattle.closed.specs.Reported.{sumFound, Reports, Backed, LedBack, AllRows}
+use Rattle.closed.specs.declared.path.Found.the-variants.{Sum, NoPath}
+use Rattle.closed.specs.Reported.{Reports, AllRows, LastReached}
 use Rattle.closed.proofs.Parts.{part, part-holds}
 
 -- ---- where the path chosen stands in the last row
@@ -68,7 +69,7 @@ holds-mark (reached h) = refl
 
 module _ (q : Problem) (k n : ℕ) (stop : List Float) (best : List Float) (back : List ℕ) (stops : StopsOf q stop n) (all : AllRows q best back n k) where
   -- the marks lead back to the units of the path chosen
-  pub trace-chosen : (p : Route) → chosenPath q k ≡ held p → (endOf p < n) × Traces (markIn back n) k (endOf p) (unitsOf p)
+  trace-chosen : (p : Route) → chosenPath q k ≡ held p → (endOf p < n) × Traces (markIn back n) k (endOf p) (unitsOf p)
   unfolding chosenPath
   trace-chosen p e =
       let at = source (λ p r. lt (sum q p) (sum q r)) (q .size) (rows q (paths q) k) p e in
@@ -78,38 +79,44 @@ module _ (q : Problem) (k n : ℕ) (stop : List Float) (best : List Float) (back
             (marks-trace q k (markIn back n) (λ s j h l. holds-mark (all s h j (omega (arith, stops .sized)))) k (at .place) p (le-refl k) (at .below) (at .here)),
       )
 
-  -- the end over the last row is that of the path chosen
-  pub end-is : (end : End) → EndOf q (part (k * n) best) (part (k * n) back) n end → endCell end ≡ carry (ended q) (chosenPath q k)
-  end-is end of = of (rows q (marks q) k) (λ j h. part-holds best back (k * n) j (all k (le-refl k) j h)) ∙ end-chosen q k
+  -- the end over the last row, which reaches some boundary, is that of the path chosen
+  module _ (since : ℕ) (reach : LastReached q n k since) (end : End) (of : EndOf q (part (k * n) best) n since end) where
+    end-is : held (endedBy end) ≡ carry (ended q) (chosenPath q k)
+    end-is =
+        of (part (k * n) back) (rows q (marks q) k) (λ j h. part-holds best back (k * n) j (all k (le-refl k) j h)) reach ∙ end-chosen q k
 
-  pub backed-is : (end : End) → endCell end ≡ carry (ended q) (chosenPath q k) → Backed back n k end
-  unfolding carry
-  backed-is (At total boundary) e = go (chosenPath q k) refl e
-    where
-      go : (c : Cell Route) → chosenPath q k ≡ c → held (record { sum = total; at = boundary }) ≡ carry (ended q) c → Backed back n k (At total boundary)
-      go empty chosen e = absurd (let z : _≡_ {A = ℕ} 0 1 = cc in omega arith)
-      go (held p) chosen e =
-          let traced = trace-chosen p chosen in
-          let is : endOf p ≡ boundary = sym (ap (λ (x : Ended). x .at) (held-same e)) in
-          (subst (λ (j : ℕ). j < n) is (traced .0), (unitsOf p, subst (λ (j : ℕ). Traces (markIn back n) k j (unitsOf p)) is (traced .1)))
-  backed-is Nowhere e = tt
+    -- the path that it is the end of
+    chosen-there : (p : Route) × (chosenPath q k ≡ held p) × (ended q p ≡ endedBy end)
+    unfolding carry
+    chosen-there = go (chosenPath q k) refl end-is
+      where
+        go : (c : Cell Route) → chosenPath q k ≡ c → held (endedBy end) ≡ carry (ended q) c → (p : Route) × (chosenPath q k ≡ held p) × (ended q p ≡ endedBy end)
+        go empty chosen e = absurd (let z : _≡_ {A = ℕ} 0 1 = cc in omega arith)
+        go (held p) chosen e = (p, chosen, sym (held-same e))
 
-  pub reports-chosen : (end : End) (path : Path) → endCell end ≡ carry (ended q) (chosenPath q k) → LedBack back n k end path → Reports q k path
-  unfolding carry
-  reports-chosen (At total boundary) path e led = go (chosenPath q k) refl e
-    where
-      go : (c : Cell Route) → chosenPath q k ≡ c → held (record { sum = total; at = boundary }) ≡ carry (ended q) c → Reports q k path
-      go empty chosen e = absurd (let z : _≡_ {A = ℕ} 0 1 = cc in omega arith)
-      go (held p) chosen e =
-          let same : record { sum = total; at = boundary } ≡ ended q p = held-same e in
-          let is : endOf p ≡ boundary = sym (ap (λ (x : Ended). x .at) same) in
-          let summed : total ≡ sum q p = ap (λ (x : Ended). x .sum) same in
-          record {
-            found = rw chosen (ap sumFound (led .0) ∙ ap held summed);
-            units = rw chosen (led .1 (unitsOf p) (subst (λ (j : ℕ). Traces (markIn back n) k j (unitsOf p)) is (trace-chosen p chosen .1)));
-          }
-  reports-chosen Nowhere path e led = go (chosenPath q k) refl e
-    where
-      go : (c : Cell Route) → chosenPath q k ≡ c → empty ≡ carry (ended q) c → Reports q k path
-      go empty chosen e = record { found = rw chosen (ap sumFound (led .0)); units = rw chosen (led .1) }
-      go (held p) chosen e = absurd (let z : _≡_ {A = ℕ} 0 1 = cc in omega arith)
+    -- its marks lead back to its units
+    pub traced : (end .boundary < n) × Traceable back n k (end .boundary)
+    traced =
+        let there = chosen-there in
+        let trace = trace-chosen (there .0) (there .1) in
+        let is : endOf (there .0) ≡ end .boundary = ap (λ (x : Ended). x .at) (there .2) in
+        (subst (λ (j : ℕ). j < n) is (trace .0), (unitsOf (there .0), subst (λ (j : ℕ). Traces (markIn back n) k j (unitsOf (there .0))) is (trace .1)))
+
+    pub reports-chosen :
+        (units : Units) → ((found : List Bounds) → Traces (markIn back n) k (end .boundary) found → UnitsAre units found) →
+        Reports q k (record { found = Sum (end .sum); units = units })
+    unfolding carry
+    reports-chosen units led =
+        let there = chosen-there in
+        let is : endOf (there .0) ≡ end .boundary = ap (λ (x : Ended). x .at) (there .2) in
+        let summed : end .sum ≡ sum q (there .0) = sym (ap (λ (x : Ended). x .sum) (there .2)) in
+        record {
+          found = rw (there .1) (ap held summed);
+          units = rw (there .1)
+              (led (unitsOf (there .0)) (subst (λ (j : ℕ). Traces (markIn back n) k j (unitsOf (there .0))) is (trace-chosen (there .0) (there .1) .1)));
+        }
+
+-- where the last row reaches no boundary there is no path
+pub reports-none : {q : Problem} {k : ℕ} (units : Units) → chosenPath q k ≡ empty → UnitsAre units [] → Reports q k (record { found = NoPath; units = units })
+unfolding carry
+reports-none units none are = record { found = rw none; units = rw none are }

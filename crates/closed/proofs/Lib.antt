@@ -2,6 +2,7 @@
 pub mod Parts
 pub mod Filling
 pub mod Bridge
+pub mod Reaching
 pub mod Chosen
 pub mod AllRows
 pub mod Restored

@@ -15,7 +15,6 @@ use Rattle.paths.specs.declared.passes.Pass.{Pass}
 use Rattle.paths.specs.declared.passes.Pass.the-variants.{NucleiStrict, CountStrict, CountRelaxed, NucleiRelaxed}
 use Rattle.paths.specs.Frames.{Increasing}
 use Rattle.paths.specs.Anchors.{kept}
-use Rattle.paths.specs.StageProblem.{boundary}
 use Rattle.paths.specs.Passes.{passStage, passStrictness, passProblem, hasNucleus, nonEmpty}
 use Rattle.paths.proofs.Anchors.{keptIn-le}
 use Rattle.record.specs.declared.layout.Layout.{Layout}
@@ -27,8 +26,8 @@ use Rattle.record.specs.Conditions.{frameAt}
 use Rattle.record.proofs.Accepted.{fit}
 use Rattle.record.proofs.Reading.{nuclei-first, added-next}
 use Rattle.stages.specs.Room.{most}
-use Rattle.stages.specs.Tables.{Tabled, tablesIn, beyond}
-use Rattle.closed.specs.Searched.{scoreRows}
+use Rattle.stages.specs.Tables.{Tabled, tablesIn}
+use Rattle.rows.specs.Reads.{scoreRows}
 use Rattle.closed.specs.Asked.{Candidate, columnsOf, askedOf, Agrees, cellsFor, Unused, Ready}
 use Rattle.closed.specs.Answered.{passSection, StageLent}
 use Rattle.closed.proofs.Bridge.{agrees, readable}
@@ -38,14 +37,12 @@ record Fits (stage : Stage) : Type 0 where
   anchorsUp : Increasing (stage .anchors)
   boundsUp : Increasing (stage .boundaries)
   few : length (stage .boundaries) ≤ most
-  last : (i : ℕ) → i < length (stage .boundaries) → boundary stage i ≤ beyond
 
 fits : {a b : ℕ} {stage : Stage} → b ≤ most → StageFit a b stage → Fits stage
 fits h s = record {
   anchorsUp = λ i k. s .anchors .rising i (suc i) (omega arith) k;
   boundsUp = λ i k. s .boundaries .rising i (suc i) (omega arith) k;
   few = omega (arith, s .fewBoundaries);
-  last = λ i k. omega (arith, s .boundaries .last i k);
 }
 
 some-there : {A : Type 0} (l : List A) → nonEmpty l ≡ true → 0 < length l
@@ -76,9 +73,6 @@ module _ {bytes : List ℕ} {at : Layout} {costs : Costs} {candidate : ℕ} (giv
   stage-fits CountRelaxed = fits (omega arith) (fit (given .laid) .added)
   stage-fits NucleiRelaxed = fits (omega arith) (fit (given .laid) .nuclei)
 
-  short : length (phraseOf bytes .mask) ≤ beyond
-  short = omega (arith, fit (given .laid) .fewFrames)
-
   rows-within : (pass : Pass) → passStage (phraseOf bytes) pass .firstRow + length (passStage (phraseOf bytes) pass .anchors) ≤ scoreRows (phraseOf bytes)
   rows-within NucleiStrict = omega (arith, nuclei-first bytes)
   rows-within CountStrict = omega (arith, added-next bytes)
@@ -104,7 +98,7 @@ module _ {bytes : List ℕ} {at : Layout} {costs : Costs} {candidate : ℕ} (giv
     pass-agrees =
         let f = stage-fits pass in
         subst⁻¹ (λ (x : Strictness). Agrees (askedOf bytes candidate x n words figures) (passProblem (phraseOf bytes) pass (columnsOf bytes candidate))) held
-        (agrees (phraseOf bytes) stage (tablesIn n words figures) tabled (f .anchorsUp) (f .boundsUp) (f .few) (f .last) short (passStrictness pass) (columnsOf bytes candidate))
+        (agrees (phraseOf bytes) stage (tablesIn n words figures) tabled (f .anchorsUp) (f .boundsUp) (f .few) (passStrictness pass) (columnsOf bytes candidate))
 
     pub pass-ready :
         {best : List Float} {back : List ℕ} → hasNucleus (phraseOf bytes) ≡ true → Unused best back (edition1 .«work_cells») →
@@ -114,7 +108,7 @@ module _ {bytes : List ℕ} {at : Layout} {costs : Costs} {candidate : ℕ} (giv
       lent = lent .whole;
       readable =
           let f = stage-fits pass in
-          readable (phraseOf bytes) stage (tablesIn n words figures) tabled (f .anchorsUp) (f .boundsUp) (f .few) (f .last) short (scoreRows (phraseOf bytes)) (some-row voiced) (rows-within pass);
+          readable (phraseOf bytes) stage (tablesIn n words figures) tabled (f .anchorsUp) (f .boundsUp) (f .few) strictness (scoreRows (phraseOf bytes)) (some-row voiced) (rows-within pass);
       some = (passProblem (phraseOf bytes) pass (columnsOf bytes candidate), pass-agrees);
       unused = record {
         values = omega (arith, cells, unused .values);

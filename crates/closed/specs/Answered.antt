@@ -17,7 +17,7 @@ use Rattle.paths.specs.Demand.{found, none, unvoiced, answerNumber, Answer as D
 use Rattle.paths.specs.Search.{orElse}
 use Rattle.stages.specs.Tables.{Tabled, tablesIn}
 use Rattle.rows.specs.Traced.{UnitsAre}
-use Rattle.closed.specs.Asked.{Lent}
+use Rattle.rows.specs.Reads.{Lent}
 use Rattle.closed.specs.declared.path.Found.{Found as PathFound}
 use Rattle.closed.specs.declared.path.Found.the-variants.{Sum, NoPath}
 use Rattle.closed.specs.declared.search.Answer.{Answer}

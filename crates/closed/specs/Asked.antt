@@ -8,17 +8,18 @@ use Rattle.phrase.specs.Phrase.{Phrase}
 use Rattle.phrase.specs.declared.costs.Costs.{Costs}
 use Rattle.paths.specs.declared.passes.Strictness.{Strictness}
 use Rattle.paths.specs.Problem.{Problem}
+use Rattle.paths.specs.Ranges.{Origins}
 use Rattle.record.specs.declared.layout.Layout.{Layout}
 use Rattle.record.specs.Accepted.{Laid}
 use Rattle.record.specs.Meaning.{phraseOf}
 use Rattle.record.specs.Reading.{candidateOf}
 use Rattle.stages.specs.Tables.{StageTables, tablesIn}
-use Rattle.rows.specs.Rows.{GapsOf, Row, Same, first, unfilled}
+use Rattle.rows.specs.Rows.{StartsOf, GapsOf, Row, Same, first, unfilled}
+use Rattle.rows.specs.Reads.{Lent, scoreRows}
 use Rattle.rows.specs.Units.{UnitsOf}
 use Rattle.rows.specs.Ends.{StopsOf}
 use Rattle.closed.specs.declared.path.Path.{Path}
-use Rattle.closed.specs.Filled.{StartsOf}
-use Rattle.closed.specs.Searched.{ScoresOf, unitsWith, Readable, scoreRows}
+use Rattle.closed.specs.Searched.{rowWith, scoresIn, lowIn, endIn, Readable}
 use Rattle.closed.specs.Reported.{AllRows, Reports}
 
 pub record Candidate (bytes : List ℕ) (at : Layout) (costs : Costs) (candidate : ℕ) : Type 0 where
@@ -46,9 +47,10 @@ pub record Agrees (asked : Asked) (q : Problem) : Type 0 where
   pub starts : StartsOf q (asked .tables .start) (asked .tables .size)
   pub gaps : GapsOf q (asked .tables .gap) (asked .tables .size)
   pub stops : StopsOf q (asked .tables .stop) (asked .tables .size)
+  pub origins : Origins (q .unitOk) (asked .tables .size) (lowIn (asked .tables)) (endIn (asked .tables) (asked .strictness))
   pub units :
-      (s : ℕ) → s < length (asked .columns) → (scores : List Float) → ScoresOf (asked .phrase) (asked .tables .row) (asked .tables .size) (getD (asked .columns) s 0) scores →
-      UnitsOf q s (unitsWith (asked .tables) scores (asked .phrase .costs .«unvoiced») (asked .strictness)) (asked .tables .size)
+      (s : ℕ) → s < length (asked .columns) →
+      UnitsOf q s (rowWith (asked .tables) (scoresIn (asked .phrase) (asked .tables) (getD (asked .columns) s 0)) (asked .phrase .costs) (asked .strictness)) (asked .tables .size)
 
 -- so many cells of the work areas, for the rows of no units and of each count up to that of the columns
 abbrev pub cellsFor : Asked → ℕ
@@ -59,16 +61,11 @@ pub record Unused (best : List Float) (back : List ℕ) (cells : ℕ) : Type 0 w
   pub marks : cells ≤ length back
   pub zero : Row best back first cells unfilled
 
--- the lists of a stage's tables are whole
-pub record Lent (words : List ℕ) (figures : List Float) : Type 0 where
-  pub worded : length words ≡ 384
-  pub figured : length figures ≡ 267
-
 -- What it rests on: an accepted record, whole lists whose tables are those of some problem, and unused cells.
 pub record Ready (bytes : List ℕ) (at : Layout) (costs : Costs) (candidate : ℕ) (strictness : Strictness) (n : ℕ) (words : List ℕ) (figures best : List Float) (back : List ℕ) : Type 0 where
   pub given : Candidate bytes at costs candidate
   pub lent : Lent words figures
-  pub readable : Readable (tablesIn n words figures) (scoreRows (phraseOf bytes))
+  pub readable : Readable (tablesIn n words figures) strictness (scoreRows (phraseOf bytes))
   pub some : (q : Problem) × Agrees (askedOf bytes candidate strictness n words figures) q
   pub unused : Unused best back (cellsFor (askedOf bytes candidate strictness n words figures))
 

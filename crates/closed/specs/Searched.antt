@@ -1,38 +1,45 @@
--- What the search reads: the scores of a unit, and the tables of a stage.
+-- What the search reads of the tables of a stage, and with the scores of a unit.
 use Prim.Native.Nat.{ℕ, _+_, _≤_, _<_}
 use mathlib.Core.List.{List}
 use mathlib.Core.Path.{_≡_}
-use lib.Ieee.{Float, nan}
-use lib.ListN.{length, getD}
+use lib.Dec.{T}
+use lib.Ieee.{Float}
+use lib.ListN.{getD}
 use Rattle.phrase.specs.Phrase.{Phrase}
+use Rattle.phrase.specs.declared.costs.Costs.{Costs}
 use Rattle.paths.specs.declared.passes.Strictness.{Strictness}
-use Rattle.stages.specs.Room.{most}
-use Rattle.stages.specs.Tables.{StageTables}
-use Rattle.rows.specs.Units.{UnitTables, unitTables}
-
--- the scores of a column in the rows listed
-abbrev pub ScoresOf : Phrase → List ℕ → ℕ → ℕ → List Float → Type 0
-ScoresOf phrase rows n column scores = (i : ℕ) → i < n → getD scores i nan ≡ phrase .score (getD rows i 0) column
-
--- how many rows of scores a phrase has
-abbrev pub scoreRows : Phrase → ℕ
-scoreRows phrase = length (phrase .nuclei .anchors) + length (phrase .added .anchors)
+use Rattle.paths.specs.Ranges.{inRange, firstReached}
+use Rattle.paths.specs.Units.{shortestUnit, longestUnit}
+use Rattle.stages.specs.Room.{most, counts}
+use Rattle.stages.specs.Tables.{StageTables, endsIn, sinceIn}
+use Rattle.rows.specs.Units.{RowTables}
 
 abbrev pub RowsBelow : List ℕ → ℕ → ℕ → Type 0
 RowsBelow rows n most = (i : ℕ) → i < n → getD rows i 0 < most
 
--- those of the first n boundaries, written over a list
-pub record Scored (phrase : Phrase) (rows : List ℕ) (n column : ℕ) (before scores : List Float) : Type 0 where
-  pub given : ScoresOf phrase rows n column scores
-  pub rest : (i : ℕ) → n ≤ i → getD scores i nan ≡ getD before i nan
+-- the tables that the row of one unit is filled from, with its scores
+abbrev pub rowWith : StageTables → (ℕ → Float) → Costs → Strictness → RowTables
+rowWith t score costs strictness = record { tables = t; score = score; costs = costs; strictness = strictness }
 
--- the tables of one unit, with its scores
-abbrev pub unitsWith : StageTables → List Float → Float → Strictness → UnitTables
-unitsWith t scores unvoiced strictness = unitTables (t .bounds) (t .first) (t .second) scores (t .duration) unvoiced strictness
+-- the scores of a column, by boundary: in the row of the last anchor before it
+abbrev pub scoresIn : Phrase → StageTables → ℕ → ℕ → Float
+scoresIn phrase t column j = phrase .score (getD (t .row) j 0) column
 
--- What may be read of the tables: frames ascend, and so do the two anchors ahead; rows are rows of scores.
-pub record Readable (t : StageTables) (scoreRows : ℕ) : Type 0 where
+-- the origins of the units into each boundary
+abbrev pub lowIn : StageTables → ℕ → ℕ
+lowIn t j = getD (t .low) j 0
+
+abbrev pub endIn : StageTables → Strictness → ℕ → ℕ
+endIn t strictness j = getD (endsIn t strictness) j 0
+
+-- What may be read of the tables: origins come before their targets, their units have a duration, rows are rows of scores; and what each
+-- count is said to reach first follows from the origins.
+pub record Readable (t : StageTables) (strictness : Strictness) (scoreRows : ℕ) : Type 0 where
   pub few : t .size ≤ most
-  pub ascending : (i j : ℕ) → i ≤ j → j < t .size → getD (t .bounds) i 0 ≤ getD (t .bounds) j 0
-  pub anchors : (i : ℕ) → i < t .size → getD (t .first) i 0 ≤ getD (t .second) i 0
+  pub earlier : (j : ℕ) → j < t .size → endIn t strictness j ≤ j
+  pub inside : (j : ℕ) → j < t .size → getD (t .middle) j 0 ≤ endIn t strictness j
+  pub fits :
+      (i j : ℕ) → j < t .size → T (inRange (lowIn t j) (endIn t strictness j) i) →
+      (getD (t .bounds) i 0 + shortestUnit ≤ getD (t .bounds) j 0) × (getD (t .bounds) j 0 ≤ getD (t .bounds) i 0 + longestUnit)
   pub rows : RowsBelow (t .row) (t .size) scoreRows
+  pub reached : (s : ℕ) → s < counts → getD (sinceIn t strictness) s 0 ≡ firstReached (lowIn t) (endIn t strictness) (t .size) s

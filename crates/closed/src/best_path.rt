@@ -3,23 +3,19 @@
 ghost use mathlib.Core.Path.{_≡_};
 ghost use lib.ListN.{length};
 ghost use Rattle.closed.specs.Asked.{columnsOf, askedOf, Ready, RowsFilled, ReportsFor};
-use crate::fill::fill_first;
 use crate::fill::fill_next;
+use crate::path::Found;
 use crate::path::Path;
 use crate::path::finish;
-use crate::scores::row_scores;
+use crate::path::no_units;
 use paths::passes::Strictness;
 use phrase::costs::Costs;
 use reading::read::column;
 use reading::read::units;
 use record::layout::Layout;
+use rows::reached::first_reached;
+use rows::starts::fill_starts;
 use stages::lists::DURATION;
-use stages::lists::FIGURES;
-use stages::lists::FIRST;
-use stages::lists::GAP;
-use stages::lists::ROW;
-use stages::lists::SECOND;
-use stages::lists::SPAN_START;
 use stages::lists::STOP;
 
 // The rows of no units and of every count up to the candidate's k, over the lent tables of a stage.
@@ -40,22 +36,18 @@ pub fn fill_rows<'a>(
     requires { ⌜ k ≡ length (columnsOf (now bytes) candidate) ⌝ }
     ensures { λ _. ⌜ RowsFilled (askedOf (now (bytes .entry)) candidate strictness n (now (words .entry)) (now (figures .entry))) (now (best .entry)) (now (back .entry)) (now (best .exit)) (now (back .exit)) ⌝ }
 {
-    let unvoiced = costs.unvoiced as f64;
-    fill_first(best, back, &figures[..GAP], &figures[GAP..STOP], n);
-    let mut score = [0.0f64; 64];
+    fill_starts(best, back, figures, n);
     for s in 0..k {
         let unit = column(bytes, at, candidate, s);
-        row_scores(bytes, at, &words[ROW..SPAN_START], n, unit, &mut score);
         fill_next(
             best,
             back,
-            &words[..FIRST],
-            &words[FIRST..SECOND],
-            &words[SECOND..ROW],
-            &figures[GAP..STOP],
-            &score,
-            &figures[DURATION..FIGURES],
-            unvoiced,
+            bytes,
+            at,
+            words,
+            figures,
+            unit,
+            costs,
             strictness,
             n,
             s,
@@ -63,7 +55,8 @@ pub fn fill_rows<'a>(
     }
 }
 
-// The path chosen, "the one that the cell rule below keeps" (document 01), or that there is none. The work areas end as they came.
+// The path chosen, "the one that the cell rule below keeps" (document 01), or that there is none. Where the last row would reach no
+// boundary nothing is searched. The work areas end as they came.
 pub fn best_path<'a>(
     best: &mut [f64],
     back: &mut [u32],
@@ -81,6 +74,12 @@ pub fn best_path<'a>(
     ensures { λ _. ⌜ (now (best .exit) ≡ now (best .entry)) × (now (back .exit) ≡ now (back .entry)) ⌝ }
 {
     let k = units(bytes, at, candidate);
+    let since = first_reached(words, strictness, k);
+    if since >= n {
+        let found = Found::NoPath;
+        let units = no_units();
+        return Path { found, units };
+    }
     fill_rows(
         best,
         back,
@@ -94,5 +93,5 @@ pub fn best_path<'a>(
         candidate,
         k,
     );
-    finish(best, back, &figures[STOP..DURATION], n, k)
+    finish(best, back, &figures[STOP..DURATION], n, k, since)
 }

@@ -1,64 +1,52 @@
 // The rows of every unit count, each a part of the work areas.
 
-ghost use Prim.Native.Nat.{_+_, _*_, _≤_, _^_};
+ghost use mathlib.Core.Path.{_≡_};
+ghost use Prim.Native.Nat.{_+_, _*_, _≤_, _<_};
 ghost use lib.ListN.{length};
-ghost use Rattle.closed.specs.Filled.{FilledFirst, FilledNext, UnfilledAfter, SomeRowAt};
-ghost use Rattle.rows.specs.Rows.{Row, first, unfilled};
-ghost use Rattle.rows.specs.Units.{unitTables, Ordered};
+ghost use Rattle.stages.specs.Room.{most, counts};
+ghost use Rattle.rows.specs.Reads.{Lent, Scorable, reachedBy, scoreRead};
+ghost use Rattle.rows.specs.Units.{Begins, Ordered, rowTables};
+ghost use Rattle.closed.specs.Filled.{FilledNext, UnfilledAfter};
 use paths::passes::Strictness;
-use rows::gaps::sweep_gaps;
-use rows::starts::fill_starts;
-use rows::units::fill_units;
-
-// The row of no units.
-pub fn fill_first<'a>(
-    best: &mut [f64],
-    back: &mut [u32],
-    start: &'a [f64],
-    gap: &'a [f64],
-    n: usize,
-)
-    requires { ⌜ (n ≤ length (now best)) × (n ≤ length (now back)) × (n ≤ length (now start)) × (n ≤ length (now gap)) ⌝ }
-    requires { ⌜ Row (now best) (now back) first n unfilled ⌝ }
-    ensures { λ _. ⌜ FilledFirst (now (start .entry)) (now (gap .entry)) (now (best .entry)) (now (back .entry)) (now (best .exit)) (now (back .exit)) n ⌝ }
-{
-    fill_starts(best, back, start, n);
-    sweep_gaps(best, back, gap, n);
-}
+use phrase::costs::Costs;
+use record::layout::Layout;
+use rows::fill::fill_row;
+use rows::reached::first_reached;
 
 // The row after that of s units: "Each unit count has its own row, filled as a part of the work area" (document 01).
 pub fn fill_next<'a>(
     best: &mut [f64],
     back: &mut [u32],
-    bounds: &'a [u32],
-    first: &'a [u32],
-    second: &'a [u32],
-    gap: &'a [f64],
-    score: &[f64],
-    duration: &'a [f64],
-    unvoiced: f64,
+    bytes: &[u8],
+    at: Layout,
+    words: &'a [u32],
+    figures: &'a [f64],
+    column: usize,
+    costs: Costs,
     strictness: Strictness,
     n: usize,
     s: usize,
 )
-    requires { ⌜ (s * n + n + n ≤ length (now best)) × (s * n + n + n ≤ length (now back)) × (3 + n ≤ 2 ^ 32) × (n ≤ length (now gap)) ⌝ }
-    requires { ⌜ Ordered (unitTables (now bounds) (now first) (now second) (now score) (now duration) unvoiced strictness) n ⌝ }
-    requires { ⌜ SomeRowAt (now best) (now back) n s × UnfilledAfter (now best) (now back) n s ⌝ }
-    ensures { λ _. ⌜ FilledNext (unitTables (now (bounds .entry)) (now (first .entry)) (now (second .entry)) (now (score .entry)) (now (duration .entry)) unvoiced strictness) (now (gap .entry)) (now (best .entry)) (now (back .entry)) (now (best .exit)) (now (back .exit)) n s ⌝ }
+    requires { ⌜ (s * n + n + n ≤ length (now best)) × (s * n + n + n ≤ length (now back)) × (s + 1 < counts) × UnfilledAfter (now best) (now back) n s ⌝ }
+    requires { ⌜ Lent (now words) (now figures) × (n ≤ most) × Scorable (now bytes) at (now words) column n × Ordered (rowTables n (now words) (now figures) (scoreRead (now bytes) (now words) column) costs strictness) n ⌝ }
+    requires { ⌜ Begins (rowTables n (now words) (now figures) (scoreRead (now bytes) (now words) column) costs strictness) n (reachedBy (now words) strictness s) (reachedBy (now words) strictness (s + 1)) ⌝ }
+    ensures { λ _. ⌜ FilledNext (rowTables n (now (words .entry)) (now (figures .entry)) (scoreRead (now (bytes .entry)) (now (words .entry)) column) costs strictness) (now (best .entry)) (now (back .entry)) (now (best .exit)) (now (back .exit)) n s (reachedBy (now (words .entry)) strictness s) ⌝ }
 {
     let row = s * n;
-    fill_units(
+    let before = first_reached(words, strictness, s);
+    let since = first_reached(words, strictness, s + 1);
+    fill_row(
         &mut best[row..],
         &mut back[row..],
-        bounds,
-        first,
-        second,
-        score,
-        duration,
-        unvoiced,
+        bytes,
+        at,
+        words,
+        figures,
+        column,
+        costs,
         strictness,
         n,
+        before,
+        since,
     );
-    let next = row + n;
-    sweep_gaps(&mut best[next..], &mut back[next..], gap, n);
 }

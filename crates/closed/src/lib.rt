@@ -3,5 +3,4 @@
 pub mod best_path;
 pub mod fill;
 pub mod path;
-pub mod scores;
 pub mod search;

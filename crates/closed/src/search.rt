@@ -12,6 +12,7 @@ ghost use Rattle.closed.specs.Answered.{Says, isFound, passWord, passSec
 ghost use Rattle.closed.specs.Asked.{Candidate, columnsOf, Unused};
 use crate::best_path::best_path;
 use crate::path::Found;
+use crate::path::no_units;
 use paths::passes::Pass;
 use paths::passes::Strictness;
 use phrase::costs::Costs;
@@ -144,10 +145,7 @@ pub fn attempt<'a>(
 pub fn no_path(answer: Answer) -> Searched
     ensures { λ r. ⌜ (r .answer ≡ answer) × UnitsAre (r .units) [] ⌝ }
 {
-    let units = Units {
-        first: [0u32; 16],
-        last: [0u32; 16],
-    };
+    let units = no_units();
     Searched { answer, units }
 }
 

@@ -5,7 +5,7 @@ use mathlib.Core.List.{List, [], _∷_, _++_, map, zipWith}
 use mathlib.Core.Path.{_≡_, refl, sym, ap, ap₂, _∙_}
 use native.Mathlib.Nat.{zero-add}
 use native.Mathlib.Omega.{arith}
-use lib.Dec.{eqb}
+use lib.Dec.{ltb, eqb}
 use lib.Ieee.{Float}
 use lib.ListN.{length, getD, drop, replicate, length-map, length-replicate, List·getD-append, List·getD-map, length-append}
 use lib.Seq.{getD-take, getD-drop}
@@ -15,11 +15,11 @@ use Rattle.phrase.specs.Phrase.{Phrase, Stage}
 use Rattle.paths.specs.declared.passes.Strictness.{Strictness}
 use Rattle.paths.specs.Frames.{Increasing}
 use Rattle.paths.specs.Anchors.{Anchor, kept}
-use Rattle.paths.specs.LookAhead.{rowAhead}
+use Rattle.paths.specs.declared.passes.Strictness.the-variants.{Strict}
+use Rattle.paths.specs.Ranges.{rowBefore}
 use Rattle.paths.specs.StageProblem.{boundary}
 use Rattle.paths.specs.Path.{Bounds}
-use Rattle.stages.specs.Tables.{StageTables}
-use Rattle.stages.specs.Tables.{Tabled, beyond, tableAt, tablesIn}
+use Rattle.stages.specs.Tables.{StageTables, Tabled, tableAt, tablesIn}
 use Rattle.rows.specs.declared.trace.Units.{Units}
 use Rattle.rows.specs.Traced.{firstsOf, lastsOf, UnitsAre}
 use Rattle.rows.specs.Traced as Traced
@@ -71,8 +71,8 @@ pub record Found (phrase : Phrase) (stage : Stage) (strictness : Strictness) (wo
   pub few : length bs ≤ 16
   pub fewBoundaries : length (stage .boundaries) ≤ 64
   pub up : Increasing (stage .anchors)
-  pub last : (i : ℕ) → i < length (stage .boundaries) → boundary stage i ≤ beyond
-  pub rows : (i : ℕ) → i < length (stage .boundaries) → rowAhead 0 (kept phrase stage) (boundary stage i) < noRow
+  pub boundsUp : Increasing (stage .boundaries)
+  pub rows : (i : ℕ) → i < length (stage .boundaries) → rowBefore 0 (kept phrase stage) (boundary stage i) < noRow
   pub ok : (i : ℕ) → i < length bs → UnitOk phrase stage strictness (getD bs i noBounds)
 
 -- an entry of the table k of a list
@@ -131,17 +131,18 @@ module _ {phrase : Phrase} {stage : Stage} {strictness : Strictness} {words : Li
   bound-at n j e below is = ap (λ (m : ℕ). getD words m 0) (sym (zero-add n)) ∙ looked-up 0 n j e below is
 
   place-is : (i : ℕ) → i < length bs → placeAt words units i ≡ placeIn phrase stage (unit i)
+  unfolding placeOf
   place-is i h =
       let inside : unit i .last < length (stage .boundaries) = in-tables i h in
       let before : unit i .first < length (stage .boundaries) = omega (arith, f .ok i h .forward) in
       let from = bound-at _ _ (first-is i h) before (tabled .bounded _ before) in
       let to = bound-at _ _ (last-is i h) inside (tabled .bounded _ inside) in
-      let ahead = looked-up 1 _ _ (first-is i h) before (tabled .firsts _ before) in
-      let row = looked-up 3 _ _ (first-is i h) before (tabled .rows _ before) in
-      let start = looked-up 4 _ _ (first-is i h) before (ap (λ (l : List ℕ). getD l (unit i .first) 0) (f .prepared .starts) ∙ table-at _ (length (stage .boundaries)) 64 0 0 _ before) in
-      let end = looked-up 5 _ _ (first-is i h) before (ap (λ (l : List ℕ). getD l (unit i .first) 0) (f .prepared .ends) ∙ table-at _ (length (stage .boundaries)) 64 0 0 _ before) in
-      (λ x. placeOf (from x) (to x) (ahead x) (row x) (start x) (end x))
-      ∙ placed-by-tables phrase stage (f .up) (f .last) (f .ok i h)
+      let middle = looked-up 2 _ _ (last-is i h) inside (tabled .ends Strict _ inside) in
+      let row = looked-up 4 _ _ (last-is i h) inside (tabled .rows _ inside) in
+      let start = looked-up 5 _ _ (last-is i h) inside (ap (λ (l : List ℕ). getD l (unit i .last) 0) (f .prepared .starts) ∙ table-at _ (length (stage .boundaries)) 64 0 0 _ inside) in
+      let end = looked-up 6 _ _ (last-is i h) inside (ap (λ (l : List ℕ). getD l (unit i .last) 0) (f .prepared .ends) ∙ table-at _ (length (stage .boundaries)) 64 0 0 _ inside) in
+      (λ x. cond (ltb (first-is i h x) (middle x)) (record { start = start x; end = end x; row = row x }) (record { start = from x; end = to x; row = noRow }))
+      ∙ placed-by-tables phrase stage (f .up) (f .boundsUp) (f .ok i h)
 
   abbrev place : Bounds → PlacedUnit
   place b = placeIn phrase stage b
@@ -153,7 +154,7 @@ module _ {phrase : Phrase} {stage : Stage} {strictness : Strictness} {words : Li
   placed-is =
       ap (unitsFrom (column (λ p. p .start)) (column (λ p. p .end)) (column (λ p. p .row)) 0) (length-listed _ (length bs))
       ∙ units-from _ _ _ (placedUnit phrase stage) bs 0 (λ i h. (λ x. told (at (λ p. p .start) i h x) (at (λ p. p .end) i h x) (at (λ p. p .row) i h x))
-      ∙ told-by-row phrase stage (f .up) (f .last) (f .ok i h) (f .rows _ (omega (arith, f .ok i h .forward, f .ok i h .inside))))
+      ∙ told-by-row phrase stage (f .up) (f .boundsUp) (f .ok i h) (f .rows _ (f .ok i h .inside)))
     where
       column : (PlacedUnit → ℕ) → List ℕ
       column figure = listed (λ i. figure (placeAt words units i)) (length bs)

@@ -20,7 +20,6 @@ use Rattle.paths.specs.Demand.{Answer, answerNumber}
 use Rattle.paths.specs.Search.{chosen}
 use Rattle.paths.specs.StageProblem.{problemOf}
 use Rattle.paths.proofs.PathUnits.{units-count, units-in-order}
-use Rattle.stages.specs.Tables.{beyond}
 use Rattle.rows.specs.declared.trace.Units.{Units}
 use Rattle.rows.specs.Traced.{UnitsAre}
 use Rattle.closed.specs.declared.search.Answer.the-variants.{Found, None, Unvoiced}
@@ -37,7 +36,7 @@ use Rattle.record.specs.declared.read.Which.{Which}
 use Rattle.record.specs.declared.read.Which.the-variants.{Nuclei, Count}
 use Rattle.record.proofs.Accepted.{fit}
 use Rattle.prepare.specs.Sides.{Prepared}
-use Rattle.prepare.proofs.Parts.{few-boundaries, anchors-fit, boundaries-fit, mask-fits, rows-fit}
+use Rattle.prepare.proofs.Parts.{few-boundaries, anchors-fit, boundaries-fit, rows-fit}
 use Rattle.entries.specs.Entry.{noRow}
 use Rattle.entries.specs.EntryFrom.{unitsFrom}
 use Rattle.entries.specs.declared.words.EntryHead.{EntryHead}
@@ -63,10 +62,6 @@ module _ {bytes : List ℕ} {at : Layout} (h : Laid bytes at) where
   abbrev phrase : Phrase
   phrase = phraseOf bytes
 
-  boundaries-last : (which : Which) (i : ℕ) → i < length (stageOf which phrase .boundaries) → getD (stageOf which phrase .boundaries) i 0 ≤ beyond
-  boundaries-last Nuclei i below = omega (arith, fit h .nuclei .boundaries .last i below)
-  boundaries-last Count i below = omega (arith, fit h .added .boundaries .last i below)
-
   rows-below : (which : Which) → stageOf which phrase .firstRow + length (stageOf which phrase .anchors) ≤ noRow
   rows-below which = omega (arith, rows-fit h which)
 
@@ -84,11 +79,11 @@ module _ {bytes : List ℕ} {at : Layout} (h : Laid bytes at) where
         few = few;
         fewBoundaries = few-boundaries h which;
         up = anchors-fit h which .ascending;
-        last = boundaries-last which;
+        boundsUp = boundaries-fit h which .ascending;
         rows = λ i below.
             subst (λ (n : ℕ). n < noRow) (tabled .rows i below)
-            (readable phrase stage _ tabled (anchors-fit h which .ascending) (boundaries-fit h which .ascending) (few-boundaries h which) (boundaries-last which)
-            (omega (arith, mask-fits h)) noRow (omega arith) (rows-below which) .rows i below);
+            (readable phrase stage _ tabled (anchors-fit h which .ascending) (boundaries-fit h which .ascending) (few-boundaries h which) strictness
+            noRow (omega arith) (rows-below which) .rows i below);
         ok = each-ok phrase stage strictness columns (units-in-order admitted);
       }
 

@@ -14,24 +14,24 @@ use Rattle.rows.specs.declared.trace.Units.{Units}
 use Rattle.decode.specs.declared.report.PlacedUnit.{PlacedUnit}
 use Rattle.decode.specs.declared.report.Reported.{Reported}
 
--- A unit of the path frames from..to. It holds the first anchor ahead of its start, with its row and its span start..end, where that comes
--- before its end.
-unfoldable pub placeOf : ℕ → ℕ → ℕ → ℕ → ℕ → ℕ → PlacedUnit
-placeOf from to ahead row start end =
-    cond (ltb ahead to) (record { start = start; end = end; row = row }) (record { start = from; end = to; row = noRow })
+-- The unit from boundary i to boundary j, from the words of its stage: one from below the middle of j's origins holds the last anchor before
+-- j, with its row and the edges of its span; another has its path frames.
+unfoldable pub placeOf : List ℕ → ℕ → ℕ → PlacedUnit
+placeOf words i j =
+    cond (ltb i (getD words (128 + j) 0))
+    (record { start = getD words (320 + j) 0; end = getD words (384 + j) 0; row = getD words (256 + j) 0 })
+    (record { start = getD words i 0; end = getD words j 0; row = noRow })
 
--- unit i of those found in a stage, from its words: boundaries, anchors ahead, their rows, and the edges of their spans
+-- unit i of those found in a stage
 abbrev pub placeAt : List ℕ → Units → ℕ → PlacedUnit
-placeAt words units i =
-    let first = getD (units .first) i 0 in
-    placeOf (getD words first 0) (getD words (getD (units .last) i 0) 0) (getD words (64 + first) 0) (getD words (192 + first) 0) (getD words (256 + first) 0) (getD words (320 + first) 0)
+placeAt words units i = placeOf words (getD (units .first) i 0) (getD (units .last) i 0)
 
 -- What is looked up is there: the first k units, and their boundaries in the words.
 pub record Placeable (words : List ℕ) (units : Units) (k : ℕ) : Type 0 where
   pub few : k ≤ 16
   pub firsts : length (units .first) ≡ 16
   pub lasts : length (units .last) ≡ 16
-  pub worded : length words ≡ 384
+  pub worded : length words ≡ 482
   pub begins : (i : ℕ) → i < k → getD (units .first) i 0 < 64
   pub ends : (i : ℕ) → i < k → getD (units .last) i 0 < 64
 

@@ -19,7 +19,7 @@ pub fn lay_added(
     figures: &mut [f64],
 )
     requires { ⌜ Laid (now bytes) at ⌝ }
-    requires { ⌜ (length (now words) ≡ 384) × (length (now figures) ≡ 267) ⌝ }
+    requires { ⌜ (length (now words) ≡ 482) × (length (now figures) ≡ 267) ⌝ }
     ensures { λ _. ⌜ AddedLaid (phraseOf (now (bytes .entry))) «lo_edge» «hi_edge» (now (words .entry)) (now (figures .entry)) (now (words .exit)) (now (figures .exit)) ⌝ }
 {
     if at.anchors.count != 0 {

@@ -3,14 +3,16 @@
 use clip::clip::NO_ROW;
 use clip::clip::clip_unanchored;
 use rows::trace::Units;
-use stages::lists::FIRST;
+use stages::lists::MIDDLE;
 use stages::lists::ROW;
 use stages::lists::SPAN_END;
 use stages::lists::SPAN_START;
 ghost use mathlib.Core.Path.{_≡_};
+ghost use Prim.Native.Nat.{_<_};
+ghost use lib.ListN.{length};
 ghost use Rattle.decode.specs.Places.{placeOf, Placeable, PlacedAll, ReportedAll};
 
-// Units in path order; entries from the unit count on are 0.
+// The units of an entry in path order. Its unit count says how many are reported; nobody reads what stands behind them.
 pub struct Reported {
     pub starts: [u32; 16],
     pub ends: [u32; 16],
@@ -23,17 +25,22 @@ pub struct PlacedUnit {
     pub row: u32,
 }
 
-// A unit of the path frames from..to, before clipping. `ahead` is the frame of the first anchor that is kept at or after its start, `row` that
-// anchor's row, and start..end its span.
-fn place_unit(from: u32, to: u32, ahead: u32, row: u32, start: u32, end: u32) -> PlacedUnit
-    ensures { λ r. ⌜ r ≡ placeOf from to ahead row start end ⌝ }
+// The unit from boundary i to boundary j of the stage that the words are of, before clipping. One from below the middle of j's origins
+// holds the last anchor before j.
+fn place_unit(words: &[u32], i: usize, j: usize) -> PlacedUnit
+    requires { ⌜ (length (now words) ≡ 482) × (i < 64) × (j < 64) ⌝ }
+    ensures { λ r. ⌜ r ≡ placeOf (now (words .entry)) i j ⌝ }
 {
-    if ahead < to {
-        PlacedUnit { start, end, row }
+    if i < words[MIDDLE + j] as usize {
+        PlacedUnit {
+            start: words[SPAN_START + j],
+            end: words[SPAN_END + j],
+            row: words[ROW + j],
+        }
     } else {
         PlacedUnit {
-            start: from,
-            end: to,
+            start: words[i],
+            end: words[j],
             row: NO_ROW,
         }
     }
@@ -53,14 +60,7 @@ fn placed_units(units: Units, k: usize, words: &[u32]) -> Reported
     while s < k {
         let i = firsts[s] as usize;
         let j = lasts[s] as usize;
-        let unit = place_unit(
-            words[i],
-            words[j],
-            words[FIRST + i],
-            words[ROW + i],
-            words[SPAN_START + i],
-            words[SPAN_END + i],
-        );
+        let unit = place_unit(words, i, j);
         starts[s] = unit.start;
         ends[s] = unit.end;
         rows[s] = unit.row;

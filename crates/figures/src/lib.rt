@@ -1,4 +1,5 @@
-// Refusal 6: every float finite and within its range. The tests are on bits, since a NaN's bits are no float that may be read.
+// Refusal 6: every float finite and within its range. The tests are on bits, since a NaN's bits are no float that may be read. A table
+// is walked to its end, whatever is found on the way, so that the walk compiles to vector code.
 
 use ieee::range::nonpositive64;
 use ieee::range::within32;
@@ -45,14 +46,13 @@ fn bad_scores(bytes: &[u8], start: usize, entries: usize) -> bool
     requires { ⌜ start + 4 * entries ≤ length (now bytes) ⌝ }
     ensures { λ r. ⌜ r ≡ badScores (now (bytes .entry)) start entries ⌝ }
 {
+    let mut bad = false;
     let mut i = 0;
     while i < entries {
-        if !score_fits(bytes, start + 4 * i) {
-            return true;
-        }
+        bad = bad | !score_fits(bytes, start + 4 * i);
         i += 1;
     }
-    false
+    bad
 }
 
 fn bad_figures(bytes: &[u8], costs: usize) -> bool
@@ -66,14 +66,13 @@ fn bad_table(bytes: &[u8], table: usize) -> bool
     requires { ⌜ table + 600 ≤ length (now bytes) ⌝ }
     ensures { λ r. ⌜ r ≡ badTable (now (bytes .entry)) table ⌝ }
 {
+    let mut bad = false;
     let mut i = 0;
     while i < 75 {
-        if !duration_fits(bytes, table + 8 * i) {
-            return true;
-        }
+        bad = bad | !duration_fits(bytes, table + 8 * i);
         i += 1;
     }
-    false
+    bad
 }
 
 // The second table is not read where there are no anchors.

@@ -6,3 +6,6 @@ pub mod Lists
 pub mod Stores
 pub mod Listed
 pub mod Filling
+pub mod Range
+pub mod Convex
+pub mod Rewriting

@@ -1,2 +1,3 @@
--- Definitions of lists that speak of nothing of the decoder.
+-- Definitions of lists and numbers that speak of nothing of the decoder.
 pub mod Listed
+pub mod Range

@@ -20,6 +20,8 @@ mod Select
 pub mod Anchors
 pub mod Rising
 pub mod LookAhead
+pub mod Ranges
+pub mod Reached
 pub mod Demanded
 pub mod Finite
 pub mod PhraseFigures

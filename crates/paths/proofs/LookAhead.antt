@@ -2,7 +2,7 @@
 -- and that a unit barred for its length, or for a second anchor, stays barred however much further it goes. Assumes nothing.
 use mathlib.Core.Logic.{_⊎_, inl, inr}
 use mathlib.Core.Path.{_≡_, refl, sym, ap, _∙_}
-use mathlib.Core.Bool.{Bool, false, cond, _&&_, and-false}
+use mathlib.Core.Bool.{Bool, false, _&&_, and-false}
 use mathlib.Core.List.{List, [], _∷_, tail}
 use Prim.Native.Nat.{ℕ, _-_, _≤_, _<_}
 use native.Mathlib.Nat.{le-trans, le-refl, not-le-of-lt}
@@ -16,7 +16,8 @@ use Rattle.paths.specs.declared.passes.Strictness.the-variants.{Strict, 
 use Rattle.paths.specs.Frames.{Increasing}
 use Rattle.paths.specs.Anchors.{Anchor, select, kept, heldIn, rowOr}
 use Rattle.paths.specs.Units.{longestUnit, fitsUnit, mayHold, admitsUnit}
-use Rattle.paths.specs.StageProblem.{scoreOf, boundary, problemOf}
+use Rattle.paths.specs.StageProblem.{boundary, problemOf}
+use Rattle.paths.specs.Ranges.{before}
 use Rattle.paths.specs.LookAhead.{ahead, frameOr, firstAhead, secondAhead, rowAhead, takenIn}
 use Rattle.laws.proofs.Tests.{by-test}
 use Rattle.paths.proofs.Frames.{increasing-le}
@@ -25,9 +26,6 @@ use Rattle.paths.proofs.Anchors.{heldIn-more}
 use Rattle.paths.proofs.Rising.{Rising, no-more, and-then, rising-select}
 
 -- ---- the anchors before a frame, of those ahead
-
-before : List Anchor → ℕ → List Anchor
-before anchors to = select (λ anchor. ltb (anchor .frame) to) anchors
 
 held-ahead : (anchors : List Anchor) (from to : ℕ) → heldIn anchors from to ≡ before (ahead anchors from) to
 unfolding heldIn ahead before
@@ -60,18 +58,6 @@ more-before beyond to no-more most past = absurd (not-le-of-lt past most)
 more-before beyond to (and-then g no-more) most past = absurd (not-le-of-lt past most)
 more-before beyond to (and-then {anchor = first} g (and-then {anchor = second} {anchors = anchors} k r)) most past =
     rw (first-before to first (second ∷ anchors) (omega arith), first-before to second anchors past) (omega arith)
-
-score-before : (phrase : Phrase) (column beyond row to : ℕ) {low : ℕ} {anchors : List Anchor} → Rising low anchors → to ≤ beyond
-    → scoreOf phrase column (before anchors to)
-    ≡ cond (leb to (frameOr beyond anchors)) (phrase .costs .«unvoiced») (phrase .score (rowOr row anchors) column)
-unfolding scoreOf
-score-before phrase column beyond row to {anchors = []} r most =
-    ap (scoreOf phrase column) (none-before beyond to {anchors = []} r most) ∙ rw (le-leb to beyond most)
-score-before phrase column beyond row to {anchors = anchor ∷ anchors} r most = by-test (leb to (anchor .frame))
-    (λ t. let h = leb→le to (anchor .frame) t in
-    ap (scoreOf phrase column) (none-before beyond to {anchors = anchor ∷ anchors} r h) ∙ rw (le-leb to (anchor .frame) h))
-    (λ t. let past = nleb→lt to (anchor .frame) t in
-    ap (scoreOf phrase column) (first-before to anchor anchors past) ∙ rw (lt-leb to (anchor .frame) past))
 
 may-not : (strictness : Strictness) (n : ℕ) → 2 ≤ n → mayHold strictness n ≡ false
 may-not Strict n h = ne-eqb n 1 (omega arith)
@@ -116,13 +102,6 @@ module _ {anchors : List Anchor} (rising : Rising 0 anchors) (beyond from to : �
       ≡ (fitsUnit (to - from) && mayHold strictness (takenIn (firstAhead beyond anchors from) (secondAhead beyond anchors from) to))
   unfolding admitsUnit
   admits-ahead strictness = ap (λ (b : Bool). fitsUnit (to - from) && b) (mayHold-ahead strictness)
-
-  -- the score of a unit, by the first of them
-  pub score-ahead : (row : ℕ) (phrase : Phrase) (column : ℕ)
-      → scoreOf phrase column (heldIn anchors from to)
-      ≡ cond (leb to (firstAhead beyond anchors from)) (phrase .costs .«unvoiced») (phrase .score (rowAhead row anchors from) column)
-  unfolding firstAhead rowAhead scoreOf
-  score-ahead row phrase column = ap (scoreOf phrase column) (held-ahead anchors from to) ∙ score-before phrase column beyond row to rising-ahead most
 
 -- ---- "The look ahead over later boundaries stops for good at the first that is over 80 frames away or takes in a second anchor."
 

@@ -11,6 +11,7 @@ pub mod Anchors
 pub mod Units
 pub mod StageProblem
 pub mod LookAhead
+pub mod Ranges
 pub mod Passes
 pub mod Demand
 pub mod Search

@@ -1,6 +1,9 @@
 // The three cost figures of a record and the filler cost, after `Filler::cost` of closed.rs.
 
+ghost use mathlib.Core.Bool.{not};
 ghost use mathlib.Core.Path.{_≡_};
+ghost use lib.Dec.{T};
+ghost use lib.Ieee.{isNan};
 ghost use Rattle.phrase.specs.Filler.{fillerCost};
 
 // The figures travel together, by value (document 01, "How a path is scored").
@@ -16,5 +19,13 @@ impl Costs {
         ensures { λ r. ⌜ r ≡ fillerCost self speech inserted ⌝ }
     {
         self.per_frame * (speech as f64) - self.insertion_llr * (inserted as f64)
+    }
+
+    // "The unvoiced score where there is no anchor": that of one unit.
+    pub fn unanchored(self) -> f64
+        requires { ⌜ T (not (isNan (self .«unvoiced»))) ⌝ }
+        ensures { λ r. ⌜ r ≡ self .«unvoiced» ⌝ }
+    {
+        self.unvoiced as f64
     }
 }

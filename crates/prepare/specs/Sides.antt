@@ -1,22 +1,24 @@
 -- What is prepared of a stage of a phrase for the search of every candidate.
-use Prim.Native.Nat.{ℕ, _+_, _*_}
+use Prim.Native.Nat.{ℕ, zero, suc, _+_, _-_, _*_, _≤_, _<_, _^_}
 use mathlib.Core.Path.{_≡_}
-use mathlib.Core.List.{List}
-use mathlib.Core.Bool.{cond}
-use lib.Dec.{ltb}
-use lib.ListN.{length, getD}
+use mathlib.Core.List.{List, [], _∷_}
+use lib.ListN.{length, getD, take, drop}
 use lib.Ieee.{Float}
 use Rattle.laws.specs.Listed.{tableOf}
 use Rattle.phrase.specs.Phrase.{Phrase, Stage}
 use Rattle.paths.specs.Units.{shortestUnit}
-use Rattle.stages.specs.Filler.{noCost}
-use Rattle.paths.specs.Anchors.{Anchor, kept}
-use Rattle.paths.specs.LookAhead.{firstAhead}
+use Rattle.paths.specs.Anchors.{Anchor, keptIn, kept}
+use Rattle.paths.specs.Ranges.{before, lastOf}
+use Rattle.paths.specs.StageProblem.{boundary}
+use Rattle.paths.specs.Frames.{Increasing}
 use Rattle.spans.specs.Spans.{spanOf}
 use Rattle.frames.specs.declared.span.Span.{Span}
 use Rattle.stages.specs.Room.{most}
-use Rattle.stages.specs.Parts.{Sees}
-use Rattle.stages.specs.Tables.{StageTables, Tabled, beyond, tableAt, tablesIn}
+use Rattle.stages.specs.Filler.{noCost}
+use Rattle.stages.specs.Parts.{Fills, Searched}
+use Rattle.stages.specs.Ranges.{entryOf}
+use Rattle.stages.specs.Search.{Reaches}
+use Rattle.stages.specs.Tables.{StageTables, Tabled, tableAt, tablesIn}
 use Rattle.stages.specs.Made.{tablesOf}
 use Rattle.record.specs.declared.layout.Layout.{Layout}
 use Rattle.record.specs.declared.read.Which.{Which}
@@ -36,37 +38,73 @@ pub record TablesOf (phrase : Phrase) (stage : Stage) (t : StageTables) : Type 0
   pub exact : t ≡ tablesOf (phrase .mask) (phrase .nuclei .anchors) (stage .anchors) (stage .firstRow) (stage .boundaries) (durationsOf stage) (phrase .costs)
   pub tabled : Tabled phrase stage t
 
--- the span of an anchor ahead by listed anchors and boundaries; where there is none, 0 and 0 stand for it
-abbrev pub aheadSpan : List ℕ → List ℕ → ℕ → ℕ → ℕ → Span
-aheadSpan anchors bounds lo hi ahead = cond (ltb ahead beyond) (spanOf anchors bounds lo hi ahead) (record { start = 0; end = 0 })
+-- ---- the spans of anchors
 
--- that of an anchor among all that the stage lists
-unfoldable pub spanAhead : Stage → ℕ → ℕ → ℕ → Span
-spanAhead stage lo hi ahead = aheadSpan (stage .anchors) (stage .boundaries) lo hi ahead
+-- the span of the first of some anchors by listed frames and boundaries; where there is none, 0 and 0 stand for it
+abbrev pub listedSpan : List ℕ → List ℕ → ℕ → ℕ → List Anchor → Span
+listedSpan frames bounds lo hi [] = record { start = 0; end = 0 }
+listedSpan frames bounds lo hi (anchor ∷ more) = spanOf frames bounds lo hi (anchor .frame)
 
--- the span of the first kept anchor at or after boundary j
-abbrev pub spanFrom : Phrase → Stage → ℕ → ℕ → ℕ → Span
-spanFrom phrase stage lo hi j = spanAhead stage lo hi (firstAhead beyond (kept phrase stage) (getD (stage .boundaries) j 0))
+-- by all that the stage lists
+unfoldable pub anchorSpan : Stage → ℕ → ℕ → List Anchor → Span
+anchorSpan stage lo hi anchors = listedSpan (stage .anchors) (stage .boundaries) lo hi anchors
 
--- the tables of the spans ahead, by the places of the boundaries among the kept anchors' frames
-pub record Spans (frames places anchors bounds : List ℕ) (lo hi : ℕ) (words : List ℕ) : Type 0 where
-  pub starts : tableAt 0 words ≡ tableOf (λ j. aheadSpan anchors bounds lo hi (getD frames (getD places j 0) 0) .start) (length bounds) most 0
-  pub ends : tableAt 1 words ≡ tableOf (λ j. aheadSpan anchors bounds lo hi (getD frames (getD places j 0) 0) .end) (length bounds) most 0
+-- the span of the last kept anchor before boundary j
+abbrev pub spanBefore : Phrase → Stage → ℕ → ℕ → ℕ → Span
+spanBefore phrase stage lo hi j = anchorSpan stage lo hi (lastOf (before (kept phrase stage) (boundary stage j)))
+
+-- frames each of which another can follow
+abbrev pub Followed : List ℕ → Type 0
+Followed frames = (i : ℕ) → i < length frames → getD frames i 0 + 1 < 2 ^ 32
+
+-- a figure of listed anchors, of the kept one before a place; 0 before the first. Rows go by listed places.
+abbrev pub figureBefore : (ℕ → ℕ) → List ℕ → ℕ → ℕ → ℕ
+figureBefore figure rows first zero = 0
+figureBefore figure rows first (suc place) = figure (entryOf rows place - first)
+
+-- the rows before the first n places stand for places of a list of this length
+pub record RowsWithin (rows : List ℕ) (first : ℕ) (places : List ℕ) (n long : ℕ) : Type 0 where
+  pub placed : Reaches places n (length rows + 1)
+  pub from : (j : ℕ) → j < n → 0 < entryOf places j → first ≤ entryOf rows (entryOf places j - 1)
+  pub within : (j : ℕ) → j < n → 0 < entryOf places j → entryOf rows (entryOf places j - 1) - first < long
+
+-- the tables of the edges of the spans, by the place of each boundary among the kept anchors
+pub record Spans (anchors bounds : List ℕ) (lo hi : ℕ) (rows : List ℕ) (first : ℕ) (places words : List ℕ) : Type 0 where
+  pub starts : tableAt 0 words
+      ≡ tableOf (λ j. figureBefore (λ i. spanOf anchors bounds lo hi (entryOf anchors i) .start) rows first (entryOf places j))
+      (length bounds) most 0
+  pub ends : tableAt 1 words
+      ≡ tableOf (λ j. figureBefore (λ i. spanOf anchors bounds lo hi (entryOf anchors i) .end) rows first (entryOf places j))
+      (length bounds) most 0
   pub whole : length words ≡ 2 * most
 
--- the tables of words, of listed and kept anchors and boundaries
-pub record Worded (kept : List Anchor) (anchors bounds : List ℕ) (lo hi : ℕ) (words : List ℕ) : Type 0 where
-  pub bounded : tableAt 0 words ≡ tableOf (λ j. getD bounds j 0) (length bounds) most 0
-  pub sees : Sees kept bounds (tableAt 1 words) (tableAt 2 words) (tableAt 3 words)
-  pub starts : tableAt 4 words ≡ tableOf (λ j. aheadSpan anchors bounds lo hi (firstAhead beyond kept (getD bounds j 0)) .start) (length bounds) most 0
-  pub ends : tableAt 5 words ≡ tableOf (λ j. aheadSpan anchors bounds lo hi (firstAhead beyond kept (getD bounds j 0)) .end) (length bounds) most 0
-  pub whole : length words ≡ 6 * most
+-- ---- the two lists
 
--- What is lent of a stage to the search of every candidate, each entry fixed: its tables, and after them the two edges of the span of the
--- anchor ahead of each boundary.
+-- the words of listed and kept anchors and boundaries
+pub record Worded (kept : List Anchor) (anchors bounds : List ℕ) (lo hi : ℕ) (words : List ℕ) : Type 0 where
+  pub searched : Searched kept bounds words
+  pub starts : tableAt 5 words
+      ≡ tableOf (λ j. listedSpan anchors bounds lo hi (lastOf (before kept (getD bounds j 0))) .start) (length bounds) most 0
+  pub ends : tableAt 6 words
+      ≡ tableOf (λ j. listedSpan anchors bounds lo hi (lastOf (before kept (getD bounds j 0))) .end) (length bounds) most 0
+  pub whole : length words ≡ 482
+
+-- those of a stage
+abbrev pub StageWords : Phrase → Stage → ℕ → ℕ → List ℕ → Type 0
+StageWords phrase stage lo hi words = Worded (kept phrase stage) (stage .anchors) (stage .boundaries) lo hi words
+
+-- and its figures
+pub record Figured (phrase : Phrase) (stage : Stage) (figures : List Float) : Type 0 where
+  pub fills : Fills (phrase .costs) (phrase .mask) (keptIn (phrase .mask) 0 (phrase .nuclei .anchors)) (stage .boundaries)
+      (tableAt 0 figures) (tableAt 1 figures) (tableAt 2 figures)
+  pub timed : take 75 (drop (3 * most) figures) ≡ durationsOf stage
+  pub whole : length figures ≡ 267
+
+-- What is lent of a stage to the search of every candidate, each entry fixed: its tables, and among them the two edges of the span of the
+-- last kept anchor before each boundary.
 pub record Prepared (phrase : Phrase) (stage : Stage) (lo hi : ℕ) (words : List ℕ) (figures : List Float) : Type 0 where
-  pub worded : length words ≡ 384
+  pub worded : length words ≡ 482
   pub figured : length figures ≡ 267
   pub tables : TablesOf phrase stage (tablesIn (length (stage .boundaries)) words figures)
-  pub starts : tableAt 4 words ≡ tableOf (λ j. spanFrom phrase stage lo hi j .start) (length (stage .boundaries)) most 0
-  pub ends : tableAt 5 words ≡ tableOf (λ j. spanFrom phrase stage lo hi j .end) (length (stage .boundaries)) most 0
+  pub starts : tableAt 5 words ≡ tableOf (λ j. spanBefore phrase stage lo hi j .start) (length (stage .boundaries)) most 0
+  pub ends : tableAt 6 words ≡ tableOf (λ j. spanBefore phrase stage lo hi j .end) (length (stage .boundaries)) most 0

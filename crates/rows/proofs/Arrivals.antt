@@ -1,110 +1,95 @@
--- What the units out of a row bring, origin by origin, and that the look ahead skips only what is barred. Assumes nothing.
-use mathlib.Core.Bool.{Bool, true, false, cond, _&&_, _||_, and-false, and-true}
-use mathlib.Core.Path.{_≡_, refl, sym, _∙_}
-use Prim.Native.Nat.{ℕ, suc, _-_, _≤_, _<_}
+-- What the units out of a row bring, origin by origin. Assumes nothing.
+use mathlib.Core.Bool.{Bool, true, false, cond}
+use mathlib.Core.Logic.{_⊎_, inl, inr}
+use mathlib.Core.Path.{_≡_, refl, sym, ap, subst, _∙_}
+use Prim.Native.Nat.{ℕ, zero, suc, _+_, _≤_, _<_}
 use native.Mathlib.Omega.{arith}
-use lib.Dec.{leb, ltb}
-use lib.Ieee.{Float, binary64, add, nan}
-use lib.ListN.{length, getD}
-use borrow.Author.Tests.{le-leb, lt-leb, leb-true, ltb-true, ltb-false}
-use Rattle.laws.proofs.Choices.{neither-left, neither-right, one-passes, and-left}
-use Rattle.paths.specs.declared.passes.Strictness.{Strictness}
-use Rattle.paths.specs.declared.passes.Strictness.the-variants.{Strict, Relaxed}
+use lib.Ieee.{Float, binary64, add}
 use Rattle.paths.specs.Problem.{Problem}
 use Rattle.paths.specs.Cell.{Cell, empty, held, keep, best as bestOf, carry, only}
-use Rattle.paths.specs.CellRule.{arrival}
+use Rattle.paths.specs.CellRule.{Keeping, arrival, sweep}
 use Rattle.paths.specs.Marks.{Marked, marks}
-use Rattle.paths.specs.Units.{shortestUnit, longestUnit, mayHold}
+use Rattle.rows.specs.declared.way.Way.{Way}
 use Rattle.rows.specs.declared.way.Way.the-variants.{Unit}
-use Rattle.rows.specs.Ways.{markedBy}
-use Rattle.rows.specs.Units.{UnitTables, frameAt, framesOf, Ordered, gain, UnitsOf}
+use Rattle.rows.specs.Ways.{markedBy, orLater, orEach}
 use Rattle.paths.proofs.Cells.{keep-empty}
-use Rattle.rows.proofs.Cells.{higher}
-
--- ---- the units of one origin
+use Rattle.rows.proofs.Cells.{higher, or-keeps}
 
 -- what the first m origins bring to boundary j
 unfoldable pub brought : Problem → ℕ → (ℕ → Cell Marked) → ℕ → ℕ → Cell Marked
 brought q s cells j m = bestOf higher m (arrival q (marks q) s cells j)
-
-pub brought-zero : (q : Problem) (s : ℕ) (cells : ℕ → Cell Marked) (j : ℕ) → brought q s cells j 0 ≡ empty
-unfolding brought bestOf
-brought-zero q s cells j = refl
 
 only-empty : {A : Type 0} (b : Bool) → only {A = A} b empty ≡ empty
 unfolding only
 only-empty true = refl
 only-empty false = refl
 
-module _ (q : Problem) (s : ℕ) (cells : ℕ → Cell Marked) (i j : ℕ) where
-  pub brought-none : cells i ≡ empty → brought q s cells j (suc i) ≡ brought q s cells j i
-  unfolding brought bestOf arrival carry
-  brought-none e = rw (e, only-empty) (keep-empty higher (bestOf higher i (arrival q (marks q) s cells j)))
+module _ (q : Problem) (s : ℕ) (cells : ℕ → Cell Marked) (j : ℕ) where
+  -- an origin that brings nothing: nothing reached it, or the unit from there is barred
+  abbrev pub Idle : ℕ → Type 0
+  Idle i = (cells i ≡ empty) ⊎ (q .unitOk i j ≡ false)
 
-  pub brought-barred : q .unitOk i j ≡ false → brought q s cells j (suc i) ≡ brought q s cells j i
-  unfolding brought bestOf arrival only
-  brought-barred e = rw e (keep-empty higher (bestOf higher i (arrival q (marks q) s cells j)))
+  brought-idle : (i : ℕ) → Idle i → brought q s cells j (suc i) ≡ brought q s cells j i
+  unfolding brought bestOf arrival carry only
+  brought-idle i (inl e) = rw (e, only-empty) (keep-empty higher (bestOf higher i (arrival q (marks q) s cells j)))
+  brought-idle i (inr e) = rw e (keep-empty higher (bestOf higher i (arrival q (marks q) s cells j)))
 
-  pub brought-unit :
-      {a : Marked} → cells i ≡ held a → q .unitOk i j ≡ true →
-      brought q s cells j (suc i) ≡ keep higher (brought q s cells j i) (held (markedBy (Unit (add binary64 (a .value) (q .unitValue s i j)) i)))
+  -- where all of the first m are so
+  pub brought-none : (m : ℕ) → ((i : ℕ) → i < m → Idle i) → brought q s cells j m ≡ empty
+  unfolding brought bestOf
+  brought-none zero idle = refl
+  brought-none (suc m) idle = brought-idle m (idle m (omega arith)) ∙ brought-none m (λ i h. idle i (omega arith))
+
+  -- where all those from m on are so
+  pub brought-past : (m n : ℕ) → ((i : ℕ) → m ≤ i → i < m + n → Idle i) → brought q s cells j (m + n) ≡ brought q s cells j m
+  brought-past m zero idle = ap (brought q s cells j) (omega arith)
+  brought-past m (suc n) idle =
+      ap (brought q s cells j) (omega arith) ∙ brought-idle (m + n) (idle (m + n) (omega arith) (omega arith)) ∙ brought-past m n (λ i h k. idle i h (omega arith))
+
+  -- a unit that is admitted, from a boundary that was reached
+  pub record Arrives (i : ℕ) (way : Way) : Type 0 where
+    pub from : Marked
+    pub there : cells i ≡ held from
+    pub ok : q .unitOk i j ≡ true
+    pub is : way ≡ Unit (add binary64 (from .value) (q .unitValue s i j)) i
+
+  brought-unit :
+      (i : ℕ) {way : Way} → Arrives i way → brought q s cells j (suc i) ≡ keep higher (brought q s cells j i) (held (markedBy way))
   unfolding brought bestOf arrival only carry marks
-  brought-unit e ok = rw (ok, e)
+  brought-unit i a = rw (a .is, a .ok, a .there)
 
--- ---- the look ahead
+  -- the first that arrives
+  pub brought-first : (i : ℕ) {way : Way} → brought q s cells j i ≡ empty → Arrives i way → brought q s cells j (suc i) ≡ held (markedBy way)
+  unfolding keep
+  brought-first i {way} e a = brought-unit i a ∙ ap (λ (c : Cell Marked). keep higher c (held (markedBy way))) e
 
-two-barred : (strictness : Strictness) → mayHold strictness 2 ≡ false
-two-barred Strict = refl
-two-barred Relaxed = refl
+  -- and those after it
+  pub brought-each :
+      (way : ℕ → Way) (n i : ℕ) (kept : Way) → brought q s cells j i ≡ held (markedBy kept) →
+      ((k : ℕ) → i ≤ k → k < i + n → Arrives k (way k)) → brought q s cells j (i + n) ≡ held (markedBy (orEach way kept i n))
+  unfolding orEach
+  brought-each way zero i kept e arrives = ap (brought q s cells j) (omega arith) ∙ e
+  brought-each way (suc n) i kept e arrives =
+      ap (brought q s cells j) (omega arith)
+      ∙ brought-each way n (suc i) (orLater kept (way i))
+      (brought-unit i (arrives i (omega arith) (omega arith)) ∙ ap (λ (c : Cell Marked). keep higher c (held (markedBy (way i)))) e ∙ sym (or-keeps kept (way i)))
+      (λ k h l. arrives k (omega arith) (omega arith))
 
--- the code's two tests: that the look ahead is to stop, and that a unit before that is as the pass asks
-abbrev pub past : UnitTables → ℕ → ℕ → Bool
-past t i j = ltb longestUnit (framesOf t i j) || ltb (getD (t .second) i 0) (frameAt t j)
+-- ---- a row that is swept by gaps
 
-abbrev pub asked : UnitTables → ℕ → ℕ → Bool
-asked t i j = leb shortestUnit (framesOf t i j) && mayHold (t .strictness) (cond (leb (frameAt t j) (getD (t .first) i 0)) 0 1)
+-- up to where nothing arrives, nothing is carried on
+pub sweep-none :
+    (kept : Keeping Marked) (arrived : ℕ → Cell Marked) (j : ℕ) → ((i : ℕ) → i ≤ j → arrived i ≡ empty) → sweep kept arrived j ≡ empty
+unfolding sweep keep carry
+sweep-none kept arrived zero none = none zero (omega arith)
+sweep-none kept arrived (suc j) none =
+    rw (none (suc j) (omega arith)) (ap (carry (kept .overGap j)) (sweep-none kept arrived j (λ i h. none i (omega arith))))
 
-module _ (t : UnitTables) (i j : ℕ) where
-  not-far : past t i j ≡ false → framesOf t i j ≤ longestUnit
-  not-far e = ltb-false longestUnit (framesOf t i j) (neither-left (ltb longestUnit (framesOf t i j)) (ltb (getD (t .second) i 0) (frameAt t j)) e)
-
-  not-crowded : past t i j ≡ false → frameAt t j ≤ getD (t .second) i 0
-  not-crowded e = ltb-false (getD (t .second) i 0) (frameAt t j) (neither-right (ltb longestUnit (framesOf t i j)) (ltb (getD (t .second) i 0) (frameAt t j)) e)
-
-  long-enough : {admitted : Bool} → admitted ≡ asked t i j → admitted ≡ true → leb shortestUnit (framesOf t i j) ≡ true
-  long-enough is passed = and-left (leb shortestUnit (framesOf t i j)) (mayHold (t .strictness) (cond (leb (frameAt t j) (getD (t .first) i 0)) 0 1)) (sym is ∙ passed)
-
-  -- its duration is in the table
-  pub in-table :
-      {n : ℕ} → Ordered t n → past t i j ≡ false → {admitted : Bool} → admitted ≡ asked t i j → admitted ≡ true →
-      (shortestUnit ≤ framesOf t i j) × (framesOf t i j - shortestUnit < length (t .duration))
-  in-table ordered near is passed =
-      (leb-true shortestUnit (framesOf t i j) (long-enough is passed), omega (arith, not-far near, leb-true shortestUnit (framesOf t i j) (long-enough is passed), ordered .duration-long))
-
-module _ {q : Problem} {s : ℕ} {t : UnitTables} {n : ℕ} (of : UnitsOf q s t n) (i j : ℕ) (later : i < j) where
-  -- "stops for good at the first that is over 80 frames away or takes in a second anchor"
-  pub past-barred : Ordered t n → past t i j ≡ true → (target : ℕ) → j ≤ target → target < n → q .unitOk i target ≡ false
-  past-barred ordered e target h k = of .ok i target (omega arith) k ∙ one-passes (ltb longestUnit (framesOf t i j)) (ltb (getD (t .second) i 0) (frameAt t j)) e
-      (λ far. rw (lt-leb (framesOf t i target) longestUnit (omega (arith, ordered .ascending j target h k, ltb-true longestUnit (framesOf t i j) far)), and-false))
-      (λ crowded.
-      let above = ltb-true (getD (t .second) i 0) (frameAt t j) crowded in
-      let up = ordered .ascending j target h k in
-      let two = ordered .anchors i (omega arith) in
-      rw (lt-leb (frameAt t target) (getD (t .first) i 0) (omega arith), lt-leb (frameAt t target) (getD (t .second) i 0) (omega arith), two-barred, and-false))
-
-  module _ (within : j < n) (near : past t i j ≡ false) {admitted : Bool} (is : admitted ≡ asked t i j) where
-    near-ok : q .unitOk i j ≡ admitted
-    near-ok = of .ok i j later within
-        ∙ rw (le-leb (framesOf t i j) longestUnit (not-far t i j near), le-leb (frameAt t j) (getD (t .second) i 0) (not-crowded t i j near), and-true) (sym is)
-
-    pub near-barred : admitted ≡ false → q .unitOk i j ≡ false
-    near-barred failed = near-ok ∙ failed
-
-    pub near-unit :
-        admitted ≡ true → {added : Float} →
-        added ≡ gain (getD (t .score) i nan) (t .unvoiced) (getD (t .first) i 0) (frameAt t j) (t .duration) (framesOf t i j) →
-        (q .unitOk i j ≡ true) × (q .unitValue s i j ≡ added)
-    near-unit passed e = (
-      near-ok ∙ passed,
-      of .value i j later within (rw (le-leb (framesOf t i j) longestUnit (not-far t i j near), long-enough t i j is passed) tt) ∙ sym e,
-    )
+-- the first boundary that something arrives at
+pub sweep-first :
+    (kept : Keeping Marked) (arrived : ℕ → Cell Marked) (j : ℕ) → ((i : ℕ) → i < j → arrived i ≡ empty) → sweep kept arrived j ≡ arrived j
+unfolding sweep carry
+sweep-first kept arrived zero none = refl
+sweep-first kept arrived (suc j) none =
+    ap (λ (c : Cell Marked). keep (kept .less) (arrived (suc j)) (carry (kept .overGap j) c)) (sweep-none kept arrived j (λ i h. none i (omega arith)))
+    ∙ keep-empty (kept .less) (arrived (suc j))

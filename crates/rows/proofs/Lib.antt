@@ -1,4 +1,5 @@
--- What is proved of cells and rows.
+-- What is proved of the cells of the work areas, and of what arrives in a row.
 pub mod Cells
-pub mod Arrivals
-pub mod Targets
+pub mod Lists
+mod Arrivals
+mod Kept

@@ -3,5 +3,6 @@
 pub mod Ways
 pub mod Rows
 pub mod Units
+pub mod Reads
 pub mod Ends
 pub mod Traced

@@ -6,7 +6,7 @@ use lib.ListN.{getD}
 use lib.Ieee.{Float, binary64, nan, ofBits}
 use Rattle.paths.specs.Problem.{Problem}
 use Rattle.paths.specs.Cell.{Cell, empty, held}
-use Rattle.paths.specs.CellRule.{sweep}
+use Rattle.paths.specs.CellRule.{rows}
 use Rattle.paths.specs.Marks.{Marked, marks}
 
 -- What the two numbers of a cell stand for: both are 0 where nothing reached it.
@@ -32,10 +32,6 @@ next n j = n + j
 abbrev pub unfilled : ℕ → Cell Marked
 unfilled j = empty
 
--- the first n cells are those of a row, whichever
-abbrev pub SomeRow : List Float → List ℕ → ℕ → Type 0
-SomeRow best back n = (cells : ℕ → Cell Marked) × Row best back first n cells
-
 -- A cell is as it was.
 pub record Same (best : List Float) (back : List ℕ) (best′ : List Float) (back′ : List ℕ) (at : ℕ) : Type 0 where
   pub value : getD best′ at nan ≡ getD best at nan
@@ -46,15 +42,15 @@ pub record FirstFilled (best : List Float) (back : List ℕ) (best′ : List Flo
   pub row : Row best′ back′ first n cells
   pub rest : (at : ℕ) → n ≤ at → Same best back best′ back′ at
 
--- what a start at each boundary leaves in the first row
-abbrev pub startCells : List Float → ℕ → Cell Marked
-startCells start j = held (record { value = getD start j nan; mark = 1 })
+-- the values of a problem's starts, as a table
+abbrev pub StartsOf : Problem → List Float → ℕ → Type 0
+StartsOf q start n = (j : ℕ) → j < n → getD start j nan ≡ q .start j
 
 -- the gap costs of a problem, as a table
 abbrev pub GapsOf : Problem → List Float → ℕ → Type 0
 GapsOf q gap n = (i : ℕ) → suc i < n → getD gap i nan ≡ q .gapCost i
 
--- The row is swept by gaps, whichever row it was.
-abbrev pub Swept : Problem → List Float → List ℕ → List Float → List ℕ → ℕ → Type 0
-Swept q best back best′ back′ n =
-    (cells : ℕ → Cell Marked) → Row best back first n cells → FirstFilled best back best′ back′ n (sweep (marks q) cells)
+-- The row of no units is filled.
+abbrev pub FirstRow : List Float → List Float → List Float → List ℕ → List Float → List ℕ → ℕ → Type 0
+FirstRow start gap best back best′ back′ n =
+    (q : Problem) → StartsOf q start n → GapsOf q gap n → FirstFilled best back best′ back′ n (rows q (marks q) 0)

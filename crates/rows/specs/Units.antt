@@ -1,83 +1,104 @@
--- The tables that the units out of a row are read from, the problems that they are the tables of, and what the units bring.
+-- The tables that a row is filled from, the problems that they are the tables of, and what the units out of the row before bring.
 use Prim.Native.Nat.{ℕ, _+_, _-_, _≤_, _<_}
-use mathlib.Core.Bool.{cond, _&&_}
+use mathlib.Core.Bool.{true, false, not, cond}
 use mathlib.Core.List.{List}
 use mathlib.Core.Path.{_≡_}
-use lib.Dec.{T, leb}
-use lib.Ieee.{Float, binary64, add, nan}
-use lib.ListN.{length, getD}
+use lib.Dec.{T, leb, ltb}
+use lib.Ieee.{Float, binary64, add, isNan, nan}
+use lib.ListN.{getD}
+use Rattle.phrase.specs.declared.costs.Costs.{Costs}
 use Rattle.paths.specs.declared.passes.Strictness.{Strictness}
 use Rattle.paths.specs.Problem.{Problem}
-use Rattle.paths.specs.Cell.{Cell, best}
-use Rattle.paths.specs.CellRule.{arrival}
+use Rattle.paths.specs.Cell.{Cell, held, best as bestOf, isHeld}
+use Rattle.paths.specs.CellRule.{arrival, sweep}
 use Rattle.paths.specs.Marks.{Marked, marks}
-use Rattle.paths.specs.Units.{shortestUnit, longestUnit, fitsUnit, mayHold}
-use Rattle.paths.specs.LookAhead.{takenIn}
-use Rattle.rows.specs.Rows.{Row, Same, first, next}
+use Rattle.paths.specs.Ranges.{inRange, Origins, arrivesFrom}
+use Rattle.paths.specs.Units.{shortestUnit, longestUnit}
+use Rattle.stages.specs.Tables.{StageTables, endsIn, tablesIn}
+use Rattle.rows.specs.declared.way.Way.{Way}
+use Rattle.rows.specs.Ways.{Markable, markedBy}
+use Rattle.rows.specs.Rows.{Row, Same, GapsOf, first, next}
 
--- By boundary: its frame, the frames of the first two anchors at or after it, and the first one's score for this unit. By length,
--- from the shortest unit on: the durations.
-pub record UnitTables : Type 0 where
-  pub bounds : List ℕ
-  pub first : List ℕ
-  pub second : List ℕ
-  pub score : List Float
-  pub duration : List Float
-  pub unvoiced : Float
+-- The tables of a stage; by boundary, the score for this unit of the last anchor before it; the cost figures; and what the pass asks.
+pub record RowTables : Type 0 where
+  pub tables : StageTables
+  pub score : ℕ → Float
+  pub costs : Costs
   pub strictness : Strictness
 
-abbrev pub unitTables : List ℕ → List ℕ → List ℕ → List Float → List Float → Float → Strictness → UnitTables
-unitTables bounds first second score duration unvoiced strictness = record {
-  bounds = bounds;
-  first = first;
-  second = second;
-  score = score;
-  duration = duration;
-  unvoiced = unvoiced;
-  strictness = strictness;
-}
+-- those over the two lists of a stage with n boundaries
+abbrev pub rowTables : ℕ → List ℕ → List Float → (ℕ → Float) → Costs → Strictness → RowTables
+rowTables n words figures score costs strictness =
+    record { tables = tablesIn n words figures; score = score; costs = costs; strictness = strictness }
 
-abbrev pub frameAt : UnitTables → ℕ → ℕ
-frameAt t i = getD (t .bounds) i 0
+abbrev pub frameAt : RowTables → ℕ → ℕ
+frameAt t i = getD (t .tables .bounds) i 0
 
-abbrev pub framesOf : UnitTables → ℕ → ℕ → ℕ
-framesOf t i j = frameAt t j - frameAt t i
+-- the origins of the units into boundary j: from the lowest up to the end, those before the middle with an anchor
+abbrev pub lowAt : RowTables → ℕ → ℕ
+lowAt t j = getD (t .tables .low) j 0
 
--- what may be read of the n boundaries: frames ascend, and so do the two anchors
-pub record Ordered (t : UnitTables) (n : ℕ) : Type 0 where
-  pub ascending : (i j : ℕ) → i ≤ j → j < n → frameAt t i ≤ frameAt t j
-  pub anchors : (i : ℕ) → i < n → getD (t .first) i 0 ≤ getD (t .second) i 0
-  pub bounds-long : n ≤ length (t .bounds)
-  pub first-long : n ≤ length (t .first)
-  pub second-long : n ≤ length (t .second)
-  pub score-long : n ≤ length (t .score)
-  pub duration-long : longestUnit - shortestUnit < length (t .duration)
+abbrev pub middleAt : RowTables → ℕ → ℕ
+middleAt t j = getD (t .tables .middle) j 0
 
--- What a unit adds: "score + duration, itself rounded once first", the unvoiced score where it ends before an anchor.
-abbrev pub gain : Float → Float → ℕ → ℕ → List Float → ℕ → Float
-gain score unvoiced first to duration frames =
-    add binary64 (cond (leb to first) unvoiced score) (getD duration (frames - shortestUnit) nan)
+abbrev pub endAt : RowTables → ℕ → ℕ
+endAt t j = getD (endsIn (t .tables) (t .strictness)) j 0
+
+-- "score + duration, itself rounded once first"
+abbrev pub gain : RowTables → Float → ℕ → ℕ → Float
+gain t score i j = add binary64 score (getD (t .tables .duration) (frameAt t j - frameAt t i - shortestUnit) nan)
+
+-- "Score: the table at the anchor's row and the unit's column, or the unvoiced score where there is no anchor."
+abbrev pub scoreAt : RowTables → ℕ → ℕ → Float
+scoreAt t i j = cond (ltb i (middleAt t j)) (t .score j) (t .costs .«unvoiced»)
 
 -- A problem whose units are those of the tables, each as unit s.
-pub record UnitsOf (q : Problem) (s : ℕ) (t : UnitTables) (n : ℕ) : Type 0 where
-  pub ok :
-      (i j : ℕ) → i < j → j < n →
-      q .unitOk i j ≡ (fitsUnit (framesOf t i j) && mayHold (t .strictness) (takenIn (getD (t .first) i 0) (getD (t .second) i 0) (frameAt t j)))
-  pub value :
-      (i j : ℕ) → i < j → j < n → T (fitsUnit (framesOf t i j)) →
-      q .unitValue s i j ≡ gain (getD (t .score) i nan) (t .unvoiced) (getD (t .first) i 0) (frameAt t j) (t .duration) (framesOf t i j)
+pub record UnitsOf (q : Problem) (s : ℕ) (t : RowTables) (n : ℕ) : Type 0 where
+  pub origins : Origins (q .unitOk) n (lowAt t) (endAt t)
+  pub value : (i j : ℕ) → i < j → j < n → T (q .unitOk i j) → q .unitValue s i j ≡ gain t (scoreAt t i j) i j
+
+-- what may be read of n boundaries: origins come before their targets, and the lengths of their units have durations
+pub record Ordered (t : RowTables) (n : ℕ) : Type 0 where
+  pub earlier : (j : ℕ) → j < n → endAt t j ≤ j
+  pub fits :
+      (i j : ℕ) → j < n → T (inRange (lowAt t j) (endAt t j) i) →
+      (frameAt t i + shortestUnit ≤ frameAt t j) × (frameAt t j ≤ frameAt t i + longestUnit)
+  pub inside : (j : ℕ) → j < n → middleAt t j ≤ endAt t j
+  pub number : T (not (isNan (t .costs .«unvoiced»)))
+
+-- a row reaches its boundaries from one on
+abbrev pub ReachedFrom : (ℕ → Cell Marked) → ℕ → ℕ → Type 0
+ReachedFrom cells n since = (j : ℕ) → j < n → isHeld (cells j) ≡ leb since j
+
+-- the first boundary that units reach from those of the row before, of which the first reached is `before`
+pub record Begins (t : RowTables) (n before since : ℕ) : Type 0 where
+  pub bounded : since ≤ n
+  pub none : (j : ℕ) → j < n → j < since → arrivesFrom (lowAt t) (endAt t) before j ≡ false
+  pub some : since < n → arrivesFrom (lowAt t) (endAt t) before since ≡ true
 
 -- what the units from the row before bring to each boundary, lowest origin first
 abbrev pub arrivals : Problem → ℕ → (ℕ → Cell Marked) → ℕ → Cell Marked
-arrivals q s cells j = best (marks q .less) j (arrival q (marks q) s cells j)
+arrivals q s cells j = bestOf (marks q .less) j (arrival q (marks q) s cells j)
 
--- The next n cells have what the units from the first n bring, and all others are as they were.
+-- that, and what the gaps carry on: the row after `cells`
+abbrev pub nextCells : Problem → ℕ → (ℕ → Cell Marked) → ℕ → Cell Marked
+nextCells q s cells = sweep (marks q) (arrivals q s cells)
+
+-- What the cell rule keeps for boundary j, where `last` is the value of the cell before it in this row, if the row reaches that.
+pub record CellOf (t : RowTables) (best : List Float) (n before since j : ℕ) (last : Float) (way : Way) : Type 0 where
+  pub markable : Markable way
+  pub kept :
+      (q : Problem) (s : ℕ) → GapsOf q (t .tables .gap) n → UnitsOf q s t n → (back : List ℕ) (cells : ℕ → Cell Marked) → Row best back first n cells →
+      ReachedFrom cells n before → (mark : ℕ) →
+      (since < j → nextCells q s cells (j - 1) ≡ held (record { value = last; mark = mark })) → nextCells q s cells j ≡ held (markedBy way)
+
+-- The next n cells are those of the row after the first n, and all others are as they were.
 pub record NextFilled (best : List Float) (back : List ℕ) (best′ : List Float) (back′ : List ℕ) (n : ℕ) (cells : ℕ → Cell Marked) : Type 0 where
   pub row : Row best′ back′ (next n) n cells
   pub before : (at : ℕ) → at < n → Same best back best′ back′ at
   pub after : (at : ℕ) → n + n ≤ at → Same best back best′ back′ at
 
-abbrev pub UnitsFilled : UnitTables → List Float → List ℕ → List Float → List ℕ → ℕ → Type 0
-UnitsFilled t best back best′ back′ n =
-    (q : Problem) (s : ℕ) → UnitsOf q s t n → (cells : ℕ → Cell Marked) → Row best back first n cells →
-    NextFilled best back best′ back′ n (arrivals q s cells)
+abbrev pub RowFilled : RowTables → List Float → List ℕ → List Float → List ℕ → ℕ → ℕ → Type 0
+RowFilled t best back best′ back′ n before =
+    (q : Problem) (s : ℕ) → GapsOf q (t .tables .gap) n → UnitsOf q s t n → (cells : ℕ → Cell Marked) → Row best back first n cells →
+    ReachedFrom cells n before → NextFilled best back best′ back′ n (nextCells q s cells)

@@ -1,11 +1,7 @@
 -- The ways into a cell (document 01, "How a path is scored"), as the two work areas keep them.
-use Prim.Native.Nat.{ℕ, _+_, _<_, _^_}
-use mathlib.Core.Bool.{Bool, cond, _||_}
-use mathlib.Core.List.{List}
-use mathlib.Core.Path.{_≡_}
-use lib.Dec.{eqb}
-use lib.ListN.{getD, set}
-use lib.Ieee.{Float, lt, nan}
+use Prim.Native.Nat.{ℕ, zero, suc, _+_, _<_, _^_}
+use mathlib.Core.Bool.{cond}
+use lib.Ieee.{Float, lt}
 use Rattle.paths.specs.Marks.{Marked}
 use Rattle.rows.specs.declared.way.Way.{Way}
 use Rattle.rows.specs.declared.way.Way.the-variants.{Start, Gap, Unit}
@@ -29,15 +25,12 @@ Markable way = wayMark way < 2 ^ 32
 abbrev pub markedBy : Way → Marked
 markedBy way = record { value = wayValue way; mark = wayMark way }
 
--- Whether a way replaces what a cell's two numbers say: always where nothing reached the cell, else "only when strictly greater".
-abbrev pub replaces : Float → ℕ → Way → Bool
-replaces value mark way = eqb mark 0 || lt value (wayValue way)
+-- "A later way replaces only when strictly greater."
+unfoldable pub orLater : Way → Way → Way
+orLater way later = cond (lt (wayValue way) (wayValue later)) later way
 
--- one of the two areas, after a way was offered at one of its cells
-abbrev pub offered : {A : Type 0} → Bool → List A → ℕ → A → List A
-offered replaced area at number = cond replaced (set area at number) area
-
--- both areas before and after
-pub record Offered (best : List Float) (back : List ℕ) (at : ℕ) (way : Way) (best′ : List Float) (back′ : List ℕ) : Type 0 where
-  pub values : best′ ≡ offered (replaces (getD best at nan) (getD back at 0) way) best at (wayValue way)
-  pub marks : back′ ≡ offered (replaces (getD best at nan) (getD back at 0) way) back at (wayMark way)
+-- the ways of n origins from one on, "from the lowest origin up", after what is kept so far
+unfoldable pub orEach : (ℕ → Way) → Way → ℕ → ℕ → Way
+unfolding orLater
+orEach way kept from zero = kept
+orEach way kept from (suc n) = orEach way (orLater kept (way from)) (suc from) n

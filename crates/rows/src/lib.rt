@@ -1,10 +1,12 @@
-// The rows of the search on the two work areas, after `best_path` of closed.rs: its cells, how each row is filled,
+// The rows of the search on the two work areas, after `best_path` of closed.rs: the ways into a cell, how each row is filled,
 // the end, and the way back through the marks.
 
 pub mod clear;
 pub mod end;
-pub mod gaps;
+pub mod fill;
+pub mod reached;
+mod score;
 pub mod starts;
 pub mod trace;
-pub mod units;
+mod units;
 pub mod way;

@@ -1,17 +1,25 @@
-// The row of no units: a start at every boundary.
+// The row of no units: a start at every boundary, and the gap from the one before.
 
+ghost use mathlib.Core.Path.{_≡_};
 ghost use Prim.Native.Nat.{_≤_};
 ghost use lib.ListN.{length};
-ghost use Rattle.rows.specs.Rows.{Row, first, unfilled, FirstFilled, startCells};
+ghost use Rattle.stages.specs.Room.{most};
+ghost use Rattle.stages.specs.Tables.{tableAt};
+ghost use Rattle.rows.specs.Rows.{FirstRow};
 use crate::way::Way;
-use crate::way::offer;
+use stages::lists::GAP;
 
-// "A path starts at any boundary b".
-pub fn fill_starts(best: &mut [f64], back: &mut [u32], start: &[f64], n: usize)
-    requires { ⌜ (n ≤ length (now best)) × (n ≤ length (now back)) × (n ≤ length (now start)) × Row (now best) (now back) first n unfilled ⌝ }
-    ensures { λ _. ⌜ FirstFilled (now (best .entry)) (now (back .entry)) (now (best .exit)) (now (back .exit)) n (startCells (now (start .entry))) ⌝ }
+// "A path starts at any boundary b"; "start comes first, [..] then the gap".
+pub fn fill_starts(best: &mut [f64], back: &mut [u32], figures: &[f64], n: usize)
+    requires { ⌜ (n ≤ length (now best)) × (n ≤ length (now back)) × (n ≤ most) × (length (now figures) ≡ 267) ⌝ }
+    ensures { λ _. ⌜ FirstRow (tableAt 0 (now (figures .entry))) (tableAt 1 (now (figures .entry))) (now (best .entry)) (now (back .entry)) (now (best .exit)) (now (back .exit)) n ⌝ }
 {
     for j in 0..n {
-        offer(best, back, j, Way::Start(start[j]));
+        let mut kept = Way::Start(figures[j]);
+        if 0 < j {
+            kept = kept.or(Way::Gap(best[j - 1] - figures[GAP + j - 1]));
+        }
+        best[j] = kept.value();
+        back[j] = kept.mark();
     }
 }

@@ -1,9 +1,7 @@
 // The ways into a cell, and what the cell rule keeps of them.
 
 ghost use mathlib.Core.Path.{_≡_};
-ghost use Prim.Native.Nat.{_<_};
-ghost use lib.ListN.{length};
-ghost use Rattle.rows.specs.Ways.{wayValue, wayMark, Markable, Offered};
+ghost use Rattle.rows.specs.Ways.{wayValue, wayMark, Markable, orLater};
 
 // "A way into a cell (units so far, boundary) is a start, a gap or a unit, each with its own f64 value" (document 01);
 // a unit comes with the boundary that it starts from.
@@ -24,6 +22,17 @@ impl Way {
         }
     }
 
+    // "A later way replaces only when strictly greater."
+    pub fn or(self, later: Way) -> Way
+        ensures { λ r. ⌜ r ≡ orLater self later ⌝ }
+    {
+        if later.value() > self.value() {
+            later
+        } else {
+            self
+        }
+    }
+
     // What `back` keeps of a way: 1 a start, 2 a gap, 3 + i a unit from boundary i.
     pub fn mark(self) -> u32
         requires { ⌜ Markable self ⌝ }
@@ -34,17 +43,5 @@ impl Way {
             Way::Gap(_) => 2,
             Way::Unit(_, origin) => 3 + (origin as u32),
         }
-    }
-}
-
-// "A later way replaces only when strictly greater": into a cell that nothing reached, any way goes.
-pub fn offer(best: &mut [f64], back: &mut [u32], at: usize, way: Way)
-    requires { ⌜ (at < length (now best)) × (at < length (now back)) × Markable way ⌝ }
-    ensures { λ _. ⌜ Offered (now (best .entry)) (now (back .entry)) at way (now (best .exit)) (now (back .exit)) ⌝ }
-{
-    let value = way.value();
-    if (back[at] == 0) | (value > best[at]) {
-        best[at] = value;
-        back[at] = way.mark();
     }
 }

@@ -35,7 +35,7 @@ fn uncut_end(bounds: &[u32], hi_edge: u32, frame: u32) -> u32
 }
 
 // The frame midway between two neighbours, rounded up, so that each stays inside its own span.
-fn cut(left: u32, right: u32) -> u32
+pub(crate) fn cut(left: u32, right: u32) -> u32
     requires { ⌜ left ≤ right ⌝ }
     ensures { λ r. ⌜ r ≡ cut left right ⌝ }
 {

@@ -1,5 +1,5 @@
 -- Counting kept anchors: those before a boundary, those between two, and those ahead of one.
-use Prim.Native.Nat.{ℕ, zero, suc, _+_, _≤_, _<_, min}
+use Prim.Native.Nat.{ℕ, zero, suc, _+_, _-_, _≤_, _<_, min}
 use mathlib.Core.Path.{_≡_, refl, sym, ap, ap₂, _∙_}
 use mathlib.Core.Bool.{Bool, true, false, _&&_, cond}
 use mathlib.Core.List.{List, [], _∷_, map, tail}
@@ -23,6 +23,41 @@ use Rattle.stages.proofs.Places.{one-counted, none-counted, none-below}
 abbrev pub Below : ℕ → List Anchor → Type 0
 Below end [] = Unit
 Below end (anchor ∷ anchors) = (anchor .frame < end) × Below end anchors
+
+-- an anchor that stands in a list of frames, at its row counted from that of the first
+pub record IsListed (row : ℕ) (frames : List ℕ) (anchor : Anchor) : Type 0 where
+  pub from : row ≤ anchor .row
+  pub within : anchor .row - row < length frames
+  pub there : getD frames (anchor .row - row) 0 ≡ anchor .frame
+
+abbrev pub AllListed : ℕ → List ℕ → List Anchor → Type 0
+AllListed row frames [] = Unit
+AllListed row frames (anchor ∷ anchors) = IsListed row frames anchor × AllListed row frames anchors
+
+pub listed-at : (row : ℕ) (frames : List ℕ) (anchors : List Anchor) → AllListed row frames anchors → (place : ℕ) (none : Anchor)
+    → place < length anchors
+    → IsListed row frames (getD anchors place none)
+listed-at row frames [] listed place none h = absurd (omega arith)
+listed-at row frames (anchor ∷ anchors) listed zero none h = listed .0
+listed-at row frames (anchor ∷ anchors) listed (suc place) none h = listed-at row frames anchors (listed .1) place none (omega arith)
+
+listed-first : (row frame : ℕ) (frames : List ℕ) → IsListed row (frame ∷ frames) (record { frame = frame; row = row })
+listed-first row frame frames =
+    let e : row - row ≡ 0 = omega arith in
+    record { from = omega arith; within = omega arith; there = ap (λ (i : ℕ). getD (frame ∷ frames) i 0) e }
+
+listed-further : (row frame : ℕ) (frames : List ℕ) (anchors : List Anchor) → AllListed (suc row) frames anchors
+    → AllListed row (frame ∷ frames) anchors
+listed-further row frame frames [] listed = tt
+listed-further row frame frames (anchor ∷ anchors) listed = (one (listed .0), listed-further row frame frames anchors (listed .1))
+  where
+    one : IsListed (suc row) frames anchor → IsListed row (frame ∷ frames) anchor
+    one is =
+        let e : anchor .row - row ≡ suc (anchor .row - suc row) = omega (arith, is .from) in record {
+          from = omega (arith, is .from);
+          within = omega (arith, is .within);
+          there = ap (λ (i : ℕ). getD (frame ∷ frames) i 0) e ∙ is .there;
+        }
 
 -- how many of a list pass a test, one at a time
 taken-in : (test : Anchor → Bool) (anchor : Anchor) (anchors : List Anchor) → test anchor ≡ true → length (select test (anchor ∷ anchors)) ≡ suc (length (select test anchors))
@@ -134,6 +169,14 @@ module _ (mask : List ℕ) where
       (λ below.
       (first (omega arith), kept-climbs high frame (suc row) frames mask-high (omega arith) later (λ h. omega (arith, next h))))
       (kept-climbs high low (suc row) frames mask-high low-high later (λ h. omega (arith, next h, first (omega arith))))
+
+  -- the row of a kept anchor, counted from the first, is its place among the listed frames
+  pub kept-listed : (row : ℕ) (frames : List ℕ) → AllListed row frames (keptIn mask row frames)
+  unfolding keptIn select numbered
+  kept-listed row [] = tt
+  kept-listed row (frame ∷ frames) =
+      let known = listed-further row frame frames (keptIn mask (suc row) frames) (kept-listed (suc row) frames) in
+      kept-either (AllListed row (frame ∷ frames)) row frame frames (λ below. (listed-first row frame frames, known)) known
 
 -- the anchors at or after a boundary are those from its place on
 pub ahead-drop : (anchors : List Anchor) (low high bound : ℕ) → Climbs low high (framesOf anchors)

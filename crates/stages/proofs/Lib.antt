@@ -7,3 +7,7 @@ pub mod Held
 pub mod Stage
 pub mod OwnTables
 pub mod Parts
+pub mod Last
+pub mod Origins
+pub mod Counted
+pub mod Searched

@@ -1,28 +1,28 @@
--- The tables made of a phrase's parts are those of its stage.
+-- The tables made of a phrase's parts are those of its stage, and stand in two lists.
 use Prim.Native.Nat.{ℕ, suc, _+_, _-_, _*_, _≤_, _<_}
-use mathlib.Core.Path.{_≡_, refl, sym, ap, ap₂, subst, _∙_}
+use mathlib.Core.Path.{_≡_, refl, sym, ap, ap₂, _∙_}
 use mathlib.Core.List.{List}
 use native.Mathlib.Omega.{arith}
 use native.Mathlib.Numerals.{add-one}
 use lib.ListN.{length, getD, take, drop}
 use lib.Ieee.{Float, nan, neg}
-use Rattle.laws.proofs.Listed.{table-at}
-use Rattle.laws.specs.Listed.{tableOf}
+use Rattle.laws.proofs.Listed.{table-at, getD-listed}
 use Rattle.phrase.specs.declared.costs.Costs.{Costs}
 use Rattle.phrase.specs.Phrase.{Phrase, Stage}
 use Rattle.phrase.specs.Filler.{fillerCost}
 use Rattle.paths.specs.Frames.{speechIn}
 use Rattle.paths.specs.Anchors.{keptIn, kept, heldIn}
-use Rattle.paths.specs.Passes.{nonEmpty, hasNucleus}
 use Rattle.paths.specs.Units.{shortestUnit, longestUnit}
-use Rattle.paths.specs.LookAhead.{firstAhead, secondAhead, rowAhead}
+use Rattle.paths.specs.declared.passes.Strictness.{Strictness}
+use Rattle.paths.specs.declared.passes.Strictness.the-variants.{Strict, Relaxed}
+use Rattle.paths.specs.Ranges.{lowOrigin, originsEnd, rowBefore}
 use Rattle.paths.specs.StageProblem.{cost, boundary}
-use Rattle.stages.specs.Room.{most}
-use Rattle.stages.specs.Tables.{StageTables, beyond, Tabled, tableAt, tablesIn}
+use Rattle.stages.specs.Room.{most, counts}
+use Rattle.stages.specs.Tables.{StageTables, Tabled, tableAt, tablesIn, endsIn, sinceIn, reachedIn}
 use Rattle.stages.specs.Edges.{edge}
 use Rattle.stages.specs.Filler.{noCost}
-use Rattle.stages.specs.Parts.{costOf, Fills, Sees}
-use Rattle.stages.specs.Made.{PartsOf, tablesOf, Made}
+use Rattle.stages.specs.Parts.{costOf, Fills, Searched}
+use Rattle.stages.specs.Made.{tablesOf}
 use Rattle.stages.proofs.Edges.{edge-in}
 
 cost-is : (phrase : Phrase) → phrase .nuclei .firstRow ≡ 0 → (from to : ℕ)
@@ -36,7 +36,22 @@ module _ (phrase : Phrase) (stage : Stage) (duration : List Float) (numbered : p
   here : (i : ℕ) → i < length (stage .boundaries) → edge (stage .boundaries) (length (phrase .mask)) i ≡ boundary stage i
   here i h = edge-in (stage .boundaries) (length (phrase .mask)) i h
 
-  own-tables : Tabled phrase stage (tablesOf (phrase .mask) (phrase .nuclei .anchors) (stage .anchors) (stage .firstRow) (stage .boundaries) duration (phrase .costs))
+  abbrev tables : StageTables
+  tables = tablesOf (phrase .mask) (phrase .nuclei .anchors) (stage .anchors) (stage .firstRow) (stage .boundaries) duration (phrase .costs)
+
+  own-ends : (strictness : Strictness) (j : ℕ) → j < length (stage .boundaries)
+      → getD (endsIn tables strictness) j 0 ≡ originsEnd strictness (kept phrase stage) (stage .boundaries) j
+  unfolding tablesOf
+  own-ends Strict j h = table-at (originsEnd Strict (kept phrase stage) (stage .boundaries)) (length (stage .boundaries)) most 0 0 j h
+  own-ends Relaxed j h = table-at (originsEnd Relaxed (kept phrase stage) (stage .boundaries)) (length (stage .boundaries)) most 0 0 j h
+
+  own-sinces : (strictness : Strictness) (s : ℕ) → s < counts → getD (sinceIn tables strictness) s 0 ≡ reachedIn phrase stage strictness s
+  unfolding tablesOf
+  own-sinces Strict s h = getD-listed (reachedIn phrase stage Strict) counts s 0 h
+  own-sinces Relaxed s h = getD-listed (reachedIn phrase stage Relaxed) counts s 0 h
+
+  pub own-tables : Tabled phrase stage
+      (tablesOf (phrase .mask) (phrase .nuclei .anchors) (stage .anchors) (stage .firstRow) (stage .boundaries) duration (phrase .costs))
   unfolding tablesOf
   own-tables = record {
     sized = refl;
@@ -57,52 +72,31 @@ module _ (phrase : Phrase) (stage : Stage) (duration : List Float) (numbered : p
         costOf (phrase .costs) (phrase .mask) (keptIn (phrase .mask) 0 (phrase .nuclei .anchors)) (edge (stage .boundaries) (length (phrase .mask)) j) (length (phrase .mask)))
         (length (stage .boundaries)) most noCost nan i h
         ∙ cost-is phrase numbered _ _ ∙ ap (λ (b : ℕ). cost phrase b (length (phrase .mask))) (here i h);
-    firsts = λ i h. table-at (λ j. firstAhead beyond (kept phrase stage) (getD (stage .boundaries) j 0)) (length (stage .boundaries)) most 0 0 i h;
-    seconds = λ i h. table-at (λ j. secondAhead beyond (kept phrase stage) (getD (stage .boundaries) j 0)) (length (stage .boundaries)) most 0 0 i h;
-    rows = λ i h. table-at (λ j. rowAhead 0 (kept phrase stage) (getD (stage .boundaries) j 0)) (length (stage .boundaries)) most 0 0 i h;
+    lows = λ j h. table-at (lowOrigin (kept phrase stage) (stage .boundaries)) (length (stage .boundaries)) most 0 0 j h;
+    ends = own-ends;
+    rows = λ j h. table-at (λ i. rowBefore 0 (kept phrase stage) (getD (stage .boundaries) i 0)) (length (stage .boundaries)) most 0 0 j h;
+    sinces = own-sinces;
     durations = timed;
   }
 
-tables-of : (mask nuclei anchors : List ℕ) (firstRow : ℕ) (bounds : List ℕ) (duration : List Float) (costs : Costs) (phrase : Phrase) (stage : Stage)
-    → PartsOf mask nuclei anchors firstRow bounds duration costs phrase stage
-    → Tabled phrase stage (tablesOf mask nuclei anchors firstRow bounds duration costs)
-tables-of mask nuclei anchors firstRow bounds duration costs phrase stage parts =
-    subst (Tabled phrase stage)
-    (λ i. tablesOf (parts .masked i) (parts .nucleated i) (parts .anchored i) (parts .ranked i) (parts .bounded i) duration (parts .priced i))
-    (own-tables phrase stage duration (parts .numbered) (parts .timed))
-
-pub made : (mask nuclei anchors : List ℕ) (firstRow : ℕ) (bounds : List ℕ) (duration : List Float) (costs : Costs) (t : StageTables)
-    → t ≡ tablesOf mask nuclei anchors firstRow bounds duration costs → Made mask nuclei anchors firstRow bounds duration costs t
-made mask nuclei anchors firstRow bounds duration costs t e = record {
-  exact = e;
-  tabled = λ phrase stage parts. subst (Tabled phrase stage) (sym e) (tables-of mask nuclei anchors firstRow bounds duration costs phrase stage parts);
-}
-
 -- The tables that stand in two lists.
 pub laid : (mask nuclei anchors : List ℕ) (firstRow : ℕ) (bounds : List ℕ) (duration : List Float) (costs : Costs) (words : List ℕ) (figures : List Float)
-    → tableAt 0 words ≡ tableOf (λ j. getD bounds j 0) (length bounds) most 0
-    → Sees (keptIn mask firstRow anchors) bounds (tableAt 1 words) (tableAt 2 words) (tableAt 3 words)
+    → Searched (keptIn mask firstRow anchors) bounds words
     → Fills costs mask (keptIn mask 0 nuclei) bounds (tableAt 0 figures) (tableAt 1 figures) (tableAt 2 figures)
     → take 75 (drop (3 * most) figures) ≡ duration
-    → Made mask nuclei anchors firstRow bounds duration costs (tablesIn (length bounds) words figures)
+    → tablesIn (length bounds) words figures ≡ tablesOf mask nuclei anchors firstRow bounds duration costs
 unfolding tablesOf
-laid mask nuclei anchors firstRow bounds duration costs words figures bounded sees fills timed =
-    made mask nuclei anchors firstRow bounds duration costs (tablesIn (length bounds) words figures)
-    (λ i.
-    record {
-      size = length bounds;
-      bounds = bounded i;
-      start = fills .started i;
-      gap = fills .gapped i;
-      stop = fills .stopped i;
-      first = sees .firsts i;
-      second = sees .seconds i;
-      row = sees .ranks i;
-      duration = timed i;
-    })
-
--- what `has_nucleus` answers, of a phrase with this mask and these nuclei
-pub nucleus-of : (phrase : Phrase) → phrase .nuclei .firstRow ≡ 0
-    → nonEmpty (keptIn (phrase .mask) 0 (phrase .nuclei .anchors)) ≡ hasNucleus phrase
-unfolding hasNucleus
-nucleus-of phrase e = ap (λ (row : ℕ). nonEmpty (keptIn (phrase .mask) row (phrase .nuclei .anchors))) (sym e)
+laid mask nuclei anchors firstRow bounds duration costs words figures searched fills timed i = record {
+  size = length bounds;
+  bounds = searched .bounded i;
+  start = fills .started i;
+  gap = fills .gapped i;
+  stop = fills .stopped i;
+  low = searched .lows i;
+  middle = searched .middles i;
+  high = searched .highs i;
+  row = searched .ranks i;
+  sinceStrict = searched .strict i;
+  sinceRelaxed = searched .relaxed i;
+  duration = timed i;
+}

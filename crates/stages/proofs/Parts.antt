@@ -3,13 +3,13 @@ use Prim.Native.Nat.{ℕ, zero, suc, _+_, _-_, _*_, _≤_, _<_}
 use mathlib.Core.Path.{_≡_, refl, sym, ap, ap₂, _∙_}
 use mathlib.Core.List.{List, [], _∷_, _++_, append-assoc, append-nil}
 use native.Mathlib.Omega.{arith}
-use lib.ListN.{length, getD, length-drop, take, drop, replicate, length-append, length-replicate, drop-of-length-le}
-use lib.Seq.{length-take-le, take-all, getD-drop, take-at, drop-at, take-take, take-add, drop-drop, take-append-le, drop-append-le, drop-append-add}
+use lib.ListN.{length, getD, length-drop, take, drop, replicate, length-append, length-replicate, take-append-drop, drop-of-length-le}
+use lib.Seq.{ext-getD, length-take-le, take-all, getD-drop, take-at, drop-at, take-take, take-add, drop-drop, take-append-le, drop-append-le, drop-append-add}
 use borrow.Rule.Slice.PartMut.{postOf, putMid, take-put, same-len-mid}
 use Rattle.laws.proofs.Numbers.{by-order}
-use Rattle.laws.proofs.Listed.{written-table, length-table}
+use Rattle.laws.proofs.Listed.{length-listed, getD-listed, written-table, length-table}
 use Rattle.laws.proofs.Lists.{drop-replicate}
-use Rattle.laws.specs.Listed.{tableOf, written}
+use Rattle.laws.specs.Listed.{listed, tableOf, written}
 use Rattle.stages.specs.Room.{most}
 use Rattle.stages.specs.Tables.{tableAt}
 
@@ -57,6 +57,19 @@ module _ {A : Type 0} where
   rest-at a l i d =
       ap (λ (rest : List A). getD rest i d) (take-all (length l - a) (drop a l) (omega (arith, length-drop a l))) ∙ getD-drop a l i d
 
+  -- a part of the front of a list
+  pub part-front : (c m : ℕ) (p q : List A) → c + m ≤ length p → take m (drop c (p ++ q)) ≡ take m (drop c p)
+  part-front c m p q h = ap (take m) (drop-append-le c p q (omega arith)) ∙ take-append-le m (drop c p) q (omega (arith, length-drop c p))
+
+  pub part-taken : (c m a : ℕ) (l : List A) → c + m ≤ a → a ≤ length l → take m (drop c (take a l)) ≡ take m (drop c l)
+  part-taken c m a l h k =
+      sym (part-front c m (take a l) (drop a l) (omega (arith, length-take-le a l k)))
+      ∙ ap (λ (x : List A). take m (drop c x)) (take-append-drop a l)
+
+  -- a part of a part
+  pub part-part : (c m a k : ℕ) (l : List A) → c + m ≤ k → a + k ≤ length l → take m (drop c (take k (drop a l))) ≡ take m (drop (a + c) l)
+  part-part c m a k l h within = part-taken c m k (drop a l) h (omega (arith, length-drop a l)) ∙ ap (take m) (drop-drop c a l)
+
 -- A list of which first the front was lent and put back, and then the rest.
 module _ {A : Type 0} (a k : ℕ) (l p q : List A) (long : length l ≡ a + k) (first : length p ≡ a) (second : length q ≡ k) where
   both-is : putMid a k (p ++ drop a l) q ≡ p ++ q
@@ -70,13 +83,55 @@ module _ {A : Type 0} (a k : ℕ) (l p q : List A) (long : length l ≡ a + k) (
 
   pub in-front : (c m : ℕ) → c + m ≤ a → take m (drop c (putMid a k (p ++ drop a l) q)) ≡ take m (drop c p)
   in-front c m h =
-      ap (λ (x : List A). take m (drop c x)) both-is ∙ ap (take m) (drop-append-le c p q (omega arith))
-      ∙ take-append-le m (drop c p) q (omega (arith, length-drop c p))
+      ap (λ (x : List A). take m (drop c x)) both-is ∙ part-front c m p q (omega arith)
 
   pub in-rest : (c m : ℕ) → take m (drop (a + c) (putMid a k (p ++ drop a l) q)) ≡ take m (drop c q)
   in-rest c m =
       ap (λ (x : List A). take m (drop (a + c) x)) both-is ∙ ap (λ (n : ℕ). take m (drop (n + c) (p ++ q))) (sym first)
       ∙ ap (take m) (drop-append-add p q c)
+
+-- A list of which two parts at its end were lent and put back.
+pub last-two : {A : Type 0} (a k m : ℕ) (l p q : List A) → length l ≡ a + k + m → length p ≡ k → length q ≡ m
+    → putMid (a + k) m (putMid a k l p) q ≡ take a l ++ p ++ q
+last-two {A} a k m l p q long first second =
+    let front : length (take a l ++ p) ≡ a + k = length-append (take a l) p ∙ ap₂ _+_ (length-take-le a l (omega arith)) first in
+    ap (λ (x : List A). putMid (a + k) m x q)
+    (sym (append-assoc (take a l) p (postOf a k l)) ∙ ap (λ (rest : List A). (take a l ++ p) ++ rest) (drop-drop k a l))
+    ∙ both-is (a + k) m l (take a l ++ p) q long front second
+
+-- A list that holds the spare value only from a place on, while parts before it are laid.
+pub record Fresh {A : Type 0} (spare : A) (size at : ℕ) (l : List A) : Type 0 where
+  pub long : length l ≡ size
+  pub rest : (c m : ℕ) → at ≤ c → c + m ≤ size → take m (drop c l) ≡ replicate m spare
+
+module _ {A : Type 0} {spare : A} {size : ℕ} where
+  pub fresh-all : {l : List A} → l ≡ replicate size spare → Fresh spare size 0 l
+  fresh-all {l} e = record {
+    long = ap length e ∙ length-replicate size spare;
+    rest = λ c m _ h.
+        ap (λ (x : List A). take m (drop c x)) e ∙ ap (take m) (drop-replicate c size spare)
+        ∙ take-replicate m (size - c) spare (omega arith);
+  }
+
+  -- the next part is laid
+  pub fresh-next : {at : ℕ} {l : List A} (k : ℕ) (p : List A) → Fresh spare size at l → length p ≡ k → at + k ≤ size
+      → Fresh spare size (at + k) (putMid at k l p)
+  fresh-next {at} {l} k p fresh e within = record {
+    long = same-len-mid at k l p (e ∙ sym (ap length (fresh .rest at k (omega arith) within) ∙ length-replicate k spare)) ∙ fresh .long;
+    rest = λ c m after h. put-after at k c m l p after (omega (arith, fresh .long)) e ∙ fresh .rest c m (omega arith) h;
+  }
+
+-- the entries of a list, written over as long a list
+pub written-whole : (list old : List ℕ) → length old ≡ length list → written (λ j. getD list j 0) (length list) old ≡ list
+written-whole list old long =
+    let short : length old ≤ length list = omega arith in
+    let none : drop (length list) old ≡ [] = drop-of-length-le old short in
+    ap₂ (λ (xs ys : List ℕ). xs ++ ys) entries none ∙ append-nil list
+  where
+    entries : listed (λ j. getD list j 0) (length list) ≡ list
+    entries =
+        ext-getD 0 (listed (λ j. getD list j 0) (length list)) list (length-listed (λ j. getD list j 0) (length list))
+        (λ i h. getD-listed (λ j. getD list j 0) (length list) i 0 (omega (arith, length-listed (λ j. getD list j 0) (length list))))
 
 -- A list of m tables of which k are laid, while the others hold the spare value only.
 pub record Laying {A : Type 0} (spare : A) (m : ℕ) (table : ℕ → List A) (k : ℕ) (l : List A) : Type 0 where

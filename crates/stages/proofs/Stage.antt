@@ -1,9 +1,9 @@
--- From counts and places to what they stand for: filler costs between edges, and the anchors ahead.
+-- From counts and places to what they stand for: the filler costs between edges.
 use Prim.Native.Nat.{ℕ, _+_, _≤_, _<_, _^_}
-use mathlib.Core.Path.{_≡_, refl, sym, ap, ap₂, _∙_}
-use mathlib.Core.List.{List, tail}
+use mathlib.Core.Path.{_≡_, sym, ap, ap₂, _∙_}
+use mathlib.Core.List.{List}
 use native.Mathlib.Omega.{arith}
-use lib.ListN.{length, getD, drop, length-map}
+use lib.ListN.{length, getD, length-map}
 use lib.Ieee.{Float, neg}
 use Rattle.laws.proofs.Numbers.{by-order}
 use Rattle.laws.proofs.Listed.{table-at, table-same, length-table, length-padded}
@@ -11,31 +11,32 @@ use Rattle.laws.specs.Listed.{padded, tableOf}
 use Rattle.phrase.specs.declared.costs.Costs.{Costs}
 use Rattle.phrase.specs.Filler.{fillerCost}
 use Rattle.paths.proofs.Frames.{speechIn-split}
+use Rattle.paths.proofs.Rising.{Rising, kept-rising}
 use Rattle.paths.specs.Frames.{speechIn}
-use Rattle.paths.specs.Anchors.{Anchor, keptIn, heldIn, rowOr}
-use Rattle.paths.specs.LookAhead.{ahead, frameOr, firstAhead, secondAhead, rowAhead}
+use Rattle.paths.specs.Anchors.{Anchor, keptIn, heldIn}
 use Rattle.stages.specs.Room.{most, edges, room}
 use Rattle.stages.specs.Tables.{beyond}
 use Rattle.stages.specs.Edges.{edge, speechBefore}
-use Rattle.stages.specs.Kept.{framesOf, rowsOf}
+use Rattle.stages.specs.Kept.{framesOf}
 use Rattle.stages.specs.Places.{Climbs, countBelow, placeBefore}
 use Rattle.stages.specs.Filler.{Ascends, stretch, startAt, noCost, Priced}
-use Rattle.stages.specs.Ahead.{Within, LooksAhead}
-use Rattle.stages.specs.Parts.{Fit, FitList, costOf, Fills, Sees}
+use Rattle.stages.specs.Parts.{Fit, FitList, costOf, Fills}
 use Rattle.stages.proofs.Edges.{edge-in, edge-end, edges-climb}
 use Rattle.stages.proofs.Places.{below-le, climbs-padded, count-padded}
-use Rattle.stages.proofs.Held.{Below, kept-below, kept-climbs, kept-few, held-count, held-on, all-below, ahead-drop, figure-from, tail-drop}
+use Rattle.stages.proofs.Held.{Below, kept-below, kept-climbs, kept-few, held-count, held-on, all-below}
 
 -- What holds of the kept anchors of a list of the record.
 pub record Orderly (mask : List ℕ) (anchors : List Anchor) : Type 0 where
   pub below : Below (length mask) anchors
   pub climbs : Climbs 0 beyond (framesOf anchors)
+  pub rising : Rising 0 anchors
   pub few : length anchors ≤ most
 
 pub kept-orderly : (mask : List ℕ) (row : ℕ) (frames : List ℕ) → length mask < 2 ^ 32 → FitList frames → Orderly mask (keptIn mask row frames)
 kept-orderly mask row frames h fit = record {
   below = kept-below mask row frames;
   climbs = kept-climbs mask beyond 0 row frames (omega arith) (omega arith) (fit .ascending) (λ _. omega arith);
+  rising = kept-rising mask row frames (fit .ascending);
   few = omega (arith, kept-few mask row frames, fit .short);
 }
 
@@ -68,7 +69,7 @@ module _ {mask : List ℕ} {anchors : List Anchor} {frames bounds places : List 
   table-place : (j : ℕ) → j ≤ length bounds → getD places j 0 ≡ placeBefore frames bounds j
   table-place j h = ap (λ (l : List ℕ). getD l j 0) (p .placed) ∙ table-at (placeBefore frames bounds) (length bounds + 1) edges 0 0 j (omega arith)
 
-  place-at : (j : ℕ) → j < length bounds → getD places j 0 ≡ countBelow (framesOf anchors) (getD bounds j 0)
+  pub place-at : (j : ℕ) → j < length bounds → getD places j 0 ≡ countBelow (framesOf anchors) (getD bounds j 0)
   place-at j h =
       table-place j (omega arith) ∙ ap (countBelow frames) (edge-in bounds beyond j h)
       ∙ place-is (p .orderly) (p .framed) (getD bounds j 0) (p .small j)
@@ -101,7 +102,7 @@ module _ {mask : List ℕ} {anchors : List Anchor} {frames bounds places : List 
       (edges-climb bounds (length mask) (p .fit .listed .ascending) i j h k)
       ∙ ap (λ (n : ℕ). n + length (heldIn anchors (edge bounds (length mask) i) (edge bounds (length mask) j))) (sym (held-at i (omega arith)))
 
-  places-long : length places ≡ edges
+  pub places-long : length places ≡ edges
   places-long = ap length (p .placed) ∙ length-table (placeBefore frames bounds) (length bounds + 1) edges 0 (omega (arith, p .fit .listed .short))
 
   pub places-ascend : Ascends places (length bounds)
@@ -111,44 +112,8 @@ module _ {mask : List ℕ} {anchors : List Anchor} {frames bounds places : List 
     rise = omega (arith, held-between i j h k);
   }
 
-  place-few : (j : ℕ) → j < length bounds → getD places j 0 ≤ most
-  place-few j h = omega (arith, place-at j h, below-le (framesOf anchors) (getD bounds j 0), length-map anchors (λ (a : Anchor). a .frame), p .orderly .few)
-
-  -- What the look ahead reads at the places.
-  module _ {rows : List ℕ} (rowed : rows ≡ padded (rowsOf anchors) room 0) where
-    pub reads-within : Within frames rows places (length bounds)
-    reads-within = record {
-      placed = omega (arith, places-long, p .fit .listed .short);
-      framed = λ j h. omega (arith, place-few j h, array-long (p .orderly) (p .framed));
-      rowed = λ j h.
-          omega (arith, place-few j h, ap length rowed, length-padded (rowsOf anchors) room 0 (omega (arith, length-map anchors (λ (a : Anchor). a .row), p .orderly .few)));
-    }
-
-    from-place : (j : ℕ) → j < length bounds → drop (getD places j 0) anchors ≡ ahead anchors (getD bounds j 0)
-    from-place j h = ap (λ (n : ℕ). drop n anchors) (place-at j h) ∙ sym (ahead-drop anchors 0 beyond (getD bounds j 0) (p .orderly .climbs))
-
-    frame-from : (place : ℕ) → place < room → getD frames place 0 ≡ frameOr beyond (drop place anchors)
-    frame-from place h = ap (λ (l : List ℕ). getD l place 0) (p .framed) ∙ figure-from (λ a. a .frame) (frameOr beyond) (λ _ _. refl) anchors room place h
-
-    pub first-at : (j : ℕ) → j < length bounds → getD frames (getD places j 0) 0 ≡ firstAhead beyond anchors (getD bounds j 0)
-    unfolding firstAhead
-    first-at j h = frame-from (getD places j 0) (omega (arith, place-few j h)) ∙ ap (frameOr beyond) (from-place j h)
-
-    pub sees : {first second row : List ℕ} → LooksAhead frames rows places (length bounds) first second row → Sees anchors bounds first second row
-    unfolding firstAhead secondAhead rowAhead
-    sees looks = record {
-      firsts = looks .firsts ∙ table-same (λ j. getD frames (getD places j 0) 0) (λ j. firstAhead beyond anchors (getD bounds j 0)) (length bounds) most 0
-          first-at;
-      seconds = looks .seconds ∙ table-same (λ j. getD frames (getD places j 0 + 1) 0) (λ j. secondAhead beyond anchors (getD bounds j 0)) (length bounds) most 0
-          (λ j h.
-          frame-from (getD places j 0 + 1) (omega (arith, place-few j h))
-          ∙ ap (frameOr beyond) (sym (tail-drop anchors (getD places j 0)) ∙ ap tail (from-place j h)));
-      ranks = looks .ranks ∙ table-same (λ j. getD rows (getD places j 0) 0) (λ j. rowAhead 0 anchors (getD bounds j 0)) (length bounds) most 0
-          (λ j h.
-          ap (λ (l : List ℕ). getD l (getD places j 0) 0) rowed
-          ∙ figure-from (λ a. a .row) (rowOr 0) (λ _ _. refl) anchors room (getD places j 0) (omega (arith, place-few j h))
-          ∙ ap (rowOr 0) (from-place j h));
-    }
+  pub place-few : (j : ℕ) → j < length bounds → getD places j 0 ≤ length anchors
+  place-few j h = omega (arith, place-at j h, below-le (framesOf anchors) (getD bounds j 0), length-map anchors (λ (a : Anchor). a .frame))
 
   -- The filler costs by the counts.
   module _ {speech : List ℕ} (counted : speech ≡ tableOf (speechBefore mask bounds) (length bounds + 1) edges 0) where

@@ -1,17 +1,18 @@
 -- What the parts of a stage's tables hold, and what is asked of the lists that they are made from.
-use Prim.Native.Nat.{ℕ, _+_, _≤_, _<_, _^_}
+use Prim.Native.Nat.{ℕ, _+_, _*_, _≤_, _<_, _^_}
 use mathlib.Core.Path.{_≡_}
 use mathlib.Core.List.{List}
-use lib.ListN.{length, getD}
+use lib.ListN.{length, getD, take, drop}
 use lib.Ieee.{Float, neg}
-use Rattle.laws.specs.Listed.{tableOf}
+use Rattle.laws.specs.Listed.{listed, tableOf}
 use Rattle.phrase.specs.declared.costs.Costs.{Costs}
 use Rattle.phrase.specs.Filler.{fillerCost}
 use Rattle.paths.specs.Frames.{Increasing, speechIn}
 use Rattle.paths.specs.Anchors.{Anchor, heldIn}
-use Rattle.paths.specs.LookAhead.{firstAhead, secondAhead, rowAhead}
-use Rattle.stages.specs.Room.{most}
-use Rattle.stages.specs.Tables.{beyond}
+use Rattle.paths.specs.declared.passes.Strictness.the-variants.{Strict, Relaxed}
+use Rattle.paths.specs.Ranges.{lowOrigin, originsEnd, firstReached, rowBefore}
+use Rattle.stages.specs.Room.{most, counts}
+use Rattle.stages.specs.Tables.{tableAt}
 use Rattle.stages.specs.Edges.{edge}
 use Rattle.stages.specs.Filler.{noCost}
 
@@ -34,8 +35,14 @@ pub record Fills (costs : Costs) (mask : List ℕ) (nuclei : List Anchor) (bound
   pub gapped : gap ≡ tableOf (λ j. costOf costs mask nuclei (edge bounds (length mask) j) (edge bounds (length mask) (j + 1))) (length bounds) most noCost
   pub stopped : stop ≡ tableOf (λ j. costOf costs mask nuclei (edge bounds (length mask) j) (length mask)) (length bounds) most noCost
 
--- The frames of the first two kept anchors at or after each boundary, and the first one's row.
-pub record Sees (anchors : List Anchor) (bounds : List ℕ) (first second row : List ℕ) : Type 0 where
-  pub firsts : first ≡ tableOf (λ j. firstAhead beyond anchors (getD bounds j 0)) (length bounds) most 0
-  pub seconds : second ≡ tableOf (λ j. secondAhead beyond anchors (getD bounds j 0)) (length bounds) most 0
-  pub ranks : row ≡ tableOf (λ j. rowAhead 0 anchors (getD bounds j 0)) (length bounds) most 0
+-- The words that the search reads, by the kept anchors of the stage.
+pub record Searched (anchors : List Anchor) (bounds words : List ℕ) : Type 0 where
+  pub bounded : tableAt 0 words ≡ tableOf (λ j. getD bounds j 0) (length bounds) most 0
+  pub lows : tableAt 1 words ≡ tableOf (lowOrigin anchors bounds) (length bounds) most 0
+  pub middles : tableAt 2 words ≡ tableOf (originsEnd Strict anchors bounds) (length bounds) most 0
+  pub highs : tableAt 3 words ≡ tableOf (originsEnd Relaxed anchors bounds) (length bounds) most 0
+  pub ranks : tableAt 4 words ≡ tableOf (λ j. rowBefore 0 anchors (getD bounds j 0)) (length bounds) most 0
+  pub strict : take counts (drop (7 * most) words)
+      ≡ listed (firstReached (lowOrigin anchors bounds) (originsEnd Strict anchors bounds) (length bounds)) counts
+  pub relaxed : take counts (drop (7 * most + counts) words)
+      ≡ listed (firstReached (lowOrigin anchors bounds) (originsEnd Relaxed anchors bounds) (length bounds)) counts

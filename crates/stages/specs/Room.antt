@@ -12,3 +12,7 @@ edges = 65
 -- the anchors, and two frames beyond them
 abbrev pub room : ℕ
 room = 66
+
+-- the counts of units, from none up to "unit count [..] 16"
+abbrev pub counts : ℕ
+counts = 17

@@ -1,4 +1,5 @@
-// Refusal 5: the mask, the four frame lists and the speech edges.
+// Refusal 5: the mask, the four frame lists and the speech edges. A section is walked to its end, whatever is found on the way, so
+// that the walk compiles to vector code.
 
 use record::bytes::byte_at;
 use record::bytes::u32_at;
@@ -16,14 +17,13 @@ fn bad_mask(bytes: &[u8], s: Section) -> bool
 {
     let start = s.start;
     let count = s.count;
+    let mut bad = false;
     let mut i = 0;
     while i < count {
-        if byte_at(bytes, start + i) > 1 {
-            return true;
-        }
+        bad = bad | (byte_at(bytes, start + i) > 1);
         i += 1;
     }
-    false
+    bad
 }
 
 fn late_frame(bytes: &[u8], s: Section) -> bool
@@ -32,14 +32,13 @@ fn late_frame(bytes: &[u8], s: Section) -> bool
 {
     let start = s.start;
     let count = s.count;
+    let mut late = false;
     let mut i = 0;
     while i < count {
-        if u32_at(bytes, start + 4 * i) > 4095 {
-            return true;
-        }
+        late = late | (u32_at(bytes, start + 4 * i) > 4095);
         i += 1;
     }
-    false
+    late
 }
 
 // Each frame is compared with the next, so the last has nothing to be compared with.
@@ -52,15 +51,14 @@ fn unordered(bytes: &[u8], s: Section) -> bool
     }
     let start = s.start;
     let pairs = s.count - 1;
+    let mut bad = false;
     let mut i = 0;
     while i < pairs {
         let here = u32_at(bytes, start + 4 * i);
-        if u32_at(bytes, start + 4 * (i + 1)) <= here {
-            return true;
-        }
+        bad = bad | (u32_at(bytes, start + 4 * (i + 1)) <= here);
         i += 1;
     }
-    false
+    bad
 }
 
 fn bad_list(bytes: &[u8], s: Section) -> bool

@@ -2,14 +2,11 @@
 use mathlib.Core.Path.{_≡_, ap, _∙_}
 use mathlib.Core.List.{_++_}
 use Prim.Native.Nat.{ℕ, suc, _+_, _*_}
-use native.Mathlib.Nat.{le-refl}
 use native.Mathlib.Omega.{arith}
 use lib.Ieee.{binary64, ofBits}
 use lib.ListN.{drop, replicate}
-use Rattle.paths.specs.CellRule.{rows}
-use Rattle.paths.specs.Marks.{marks}
-use Rattle.closed.proofs.Parts.{part-length, part-holds}
-use Rattle.closed.proofs.Chosen.{end-is, backed-is, reports-chosen}
+use Rattle.closed.proofs.Parts.{part-length}
+use Rattle.closed.proofs.Chosen.{traced, reports-chosen}
 use borrow.Author.Needs.{needs}
 use Rattle.closed.proofs.path.finish.Statement.{statement}
 use Rattle.closed.proofs.path.finish.Tie as tie
@@ -29,42 +26,21 @@ part-best-end-start c = search needs
 part-best-end-end : tie.Need-part-best-end-end
 part-best-end-end c = search needs
 
-mul-best-end-2 : tie.Need-mul-best-end-2
-mul-best-end-2 c = search needs
-
-sub-best-end-2 : tie.Need-sub-best-end-2
-sub-best-end-2 c = search needs
-
-part-best-end-start-2 : tie.Need-part-best-end-start-2
-part-best-end-start-2 c = search needs
-
-part-best-end-end-2 : tie.Need-part-best-end-end-2
-part-best-end-end-2 c = search needs
-
 best-end-requires : tie.Need-best-end-requires
 best-end-requires c κs =
-    let start = c .before .before .before .before .before .before .before in
+    let start = c .before .before .before .before .before in
     let a = start .args in
-    let some = start .pre .1 in (
-      omega (arith, part-length (a .k * a .n) (a .best .now), start .pre .0 .2),
-      omega (arith, part-length (a .k * a .n) (a .back .now), start .pre .0 .3),
-      start .pre .0 .4,
-      (rows (some .0) (marks (some .0)) (a .k), λ j h. part-holds (a .best .now) (a .back .now) (a .k * a .n) j (some .2 (a .k) (le-refl (a .k)) j h)),
-    )
+    (start .pre .0 .5, omega (arith, part-length (a .k * a .n) (a .best .now), start .pre .0 .2), start .pre .0 .4)
 
-led-back-requires : tie.Need-led-back-requires
-led-back-requires c κs =
-    let start = c .before .before .before .before .before .before .before .before .before in
+trace-requires : tie.Need-trace-requires
+trace-requires c κs =
+    let start = c .before .before .before .before .before .before .before in
     let a = start .args in
     let p = start .pre .0 in
     let some = start .pre .1 in
-    let end = c .before .best-end in (
-      p .0,
-      p .1,
-      p .3,
-      backed-is (some .0) (a .k) (a .n) (a .stop .now) (a .best .now) (a .back .now) (some .1) (some .2) (end .result)
-          (end-is (some .0) (a .k) (a .n) (a .stop .now) (a .best .now) (a .back .now) (some .1) (some .2) (end .result) (end .ensures (some .0) (some .1))),
-    )
+    let end = c .before .best-end in
+    let led = traced (some .0) (a .k) (a .n) (a .stop .now) (a .best .now) (a .back .now) (some .1) (some .2) (a .since) (some .3) (end .result) (end .ensures (some .0) (some .1)) in
+    ((p .0, p .1, p .3, led .0), led .1)
 
 add-clear : tie.Need-add-clear
 add-clear c = search needs
@@ -80,14 +56,14 @@ same-length-2 c = search needs
 
 returns : tie.Need-returns
 returns c =
-    let start = c .before .before .before .before .before .before .before .before .before .before .before .before .before .before .before .before .before in
+    let start = c .before .before .before .before .before .before .before .before .before .before .before .before .before .before .before in
     let a = start .args in
     let end = c .before .before .before .before .before .before .before .before .before .best-end in
-    let path = c .before .before .before .before .before .before .before .led-back in
+    let units = c .before .before .before .before .before .before .before .trace in
     let cleared = c .before .before .before .before .clear .ensures in
     let is : a .k * a .n + a .n ≡ suc (a .k) * a .n = omega arith in (
-      (λ q stops all. reports-chosen q (a .k) (a .n) (a .stop .now) (a .best .now) (a .back .now) stops all (end .result) (path .result)
-          (end-is q (a .k) (a .n) (a .stop .now) (a .best .now) (a .back .now) stops all (end .result) (end .ensures q stops)) (path .ensures)),
+      (λ q stops all reach. reports-chosen q (a .k) (a .n) (a .stop .now) (a .best .now) (a .back .now) stops all (a .since) reach (end .result) (end .ensures q stops)
+          (units .result) (units .ensures)),
       (
         cleared .0 ∙ ap (λ (m : ℕ). replicate m (ofBits binary64 0) ++ drop m (a .best .now)) is,
         cleared .1 ∙ ap (λ (m : ℕ). replicate m 0 ++ drop m (a .back .now)) is,
@@ -103,12 +79,8 @@ finish-spec =
     sub-best-end
     part-best-end-start
     part-best-end-end
-    mul-best-end-2
-    sub-best-end-2
-    part-best-end-start-2
-    part-best-end-end-2
     best-end-requires
-    led-back-requires
+    trace-requires
     add-clear
     clear-requires
     same-length

@@ -1,21 +1,22 @@
 -- `rows::end::best_end` meets its contract. Assumes nothing.
+use mathlib.Core.Bool.{Bool, true, false, cond}
 use mathlib.Core.List.{List}
-use mathlib.Core.Logic.{_≢_, ⊎-elim}
 use mathlib.Core.Path.{_≡_, refl, sym, ap, _∙_}
-use Prim.Native.Nat.{ℕ, suc, _+_, _-_, _≤_, _<_}
+use Prim.Native.Nat.{ℕ, zero, suc, _+_, _-_, _≤_, _<_}
 use native.Mathlib.Numerals.{add-one}
 use native.Mathlib.Omega.{arith}
-use lib.Ieee.{Float, binary64, sub, nan}
+use lib.Ieee.{Float, binary64, lt, sub, nan}
 use lib.ListN.{getD}
 use borrow.Author.Needs.{needs}
 use Rattle.paths.specs.Problem.{Problem}
-use Rattle.paths.specs.Cell.{Cell, held, keep, best as bestOf, carry}
+use Rattle.paths.specs.Cell.{Cell, empty, held, keep, best as bestOf, carry}
 use Rattle.paths.specs.Marks.{Marked, chosenEnd, End as Ended}
 use Rattle.rows.specs.declared.end.End.{End}
-use Rattle.rows.specs.Ends.{endCell, higherEnd, StopsOf}
-use Rattle.rows.specs.Rows.{Row, HoldsAt, first}
+use Rattle.rows.specs.Ends.{endedBy, orEnd, higherEnd, StopsOf}
+use Rattle.rows.specs.Rows.{Row, first}
+use Rattle.rows.specs.Units.{ReachedFrom}
 use Rattle.paths.proofs.Cells.{keep-empty}
-use Rattle.rows.proofs.Cells.{holds-empty, holds-held}
+use Rattle.rows.proofs.Cells.{row-held, row-empty}
 use Rattle.rows.proofs.end.best_end.Statement.{statement}
 use Rattle.rows.proofs.end.best_end.Tie as tie
 
@@ -27,88 +28,119 @@ chosen-is : (q : Problem) (cells : ℕ → Cell Marked) → bestOf higherEnd (q 
 unfolding chosenEnd stopping
 chosen-is q cells = refl
 
-module _ (q : Problem) (cells : ℕ → Cell Marked) (best : List Float) (back : List ℕ) (j : ℕ) (holds : HoldsAt best back j (cells j)) where
-  reached :
-      getD back j 0 ≢ 0 → {stop : Float} → stop ≡ q .stopCost j →
-      bestOf higherEnd (suc j) (stopping q cells) ≡ keep higherEnd (bestOf higherEnd j (stopping q cells)) (held (record { sum = sub binary64 (getD best j nan) stop; at = j }))
-  unfolding bestOf stopping carry
-  reached h e = rw (holds-held holds h, e)
+-- the cell rule on ends is that on the code's struct
+or-ends : (end later : End) → held (endedBy (orEnd end later)) ≡ keep higherEnd (held (endedBy end)) (held (endedBy later))
+unfolding keep orEnd
+or-ends end later = go (lt (end .sum) (later .sum))
+  where
+    go : (b : Bool) → held (endedBy (cond b later end)) ≡ cond b (held (endedBy later)) (held (endedBy end))
+    go true = refl
+    go false = refl
 
-  unreached : getD back j 0 ≡ 0 → bestOf higherEnd (suc j) (stopping q cells) ≡ bestOf higherEnd j (stopping q cells)
-  unfolding bestOf stopping carry
-  unreached h = rw (holds-empty holds h) (keep-empty higherEnd (bestOf higherEnd j (stopping q cells)))
+-- the end at boundary j, by the two tables
+abbrev endAt : List Float → List Float → ℕ → End
+endAt best stop j = record { sum = sub binary64 (getD best j nan) (getD stop j nan); boundary = j }
 
-one-more : (q : Problem) (cells : ℕ → Cell Marked) (j : ℕ) → bestOf higherEnd (suc j) (stopping q cells) ≡ bestOf higherEnd (j + 1) (stopping q cells)
-one-more q cells j = ap (λ (m : ℕ). bestOf higherEnd m (stopping q cells)) (sym (add-one j))
+module _ {q : Problem} {stop : List Float} {n since : ℕ} (stops : StopsOf q stop n) (best : List Float) (back : List ℕ) {cells : ℕ → Cell Marked}
+    (row : Row best back first n cells) (reach : ReachedFrom cells n since) where
+  none-before : (m : ℕ) → m ≤ since → m ≤ n → bestOf higherEnd m (stopping q cells) ≡ empty
+  unfolding bestOf stopping carry
+  none-before zero h k = refl
+  none-before (suc m) h k =
+      rw (row-empty best back row reach m (omega arith) (omega arith)) (keep-empty higherEnd (bestOf higherEnd m (stopping q cells)) ∙ none-before m (omega arith) (omega arith))
+
+  stopping-at : (j : ℕ) → j < n → since ≤ j → stopping q cells j ≡ held (endedBy (endAt best stop j))
+  unfolding stopping carry
+  stopping-at j within h = rw (row-held best back row reach j within h, stops .costs j within)
+
+  first-end : (since < n) → bestOf higherEnd (since + 1) (stopping q cells) ≡ held (endedBy (endAt best stop since))
+  unfolding bestOf keep
+  first-end within =
+      rw (add-one since, none-before since (omega arith) (omega arith)) (stopping-at since within (omega arith))
+
+  one-more :
+      (j : ℕ) (end : End) → j < n → since ≤ j → bestOf higherEnd j (stopping q cells) ≡ held (endedBy end) →
+      bestOf higherEnd (j + 1) (stopping q cells) ≡ held (endedBy (orEnd end (endAt best stop j)))
+  unfolding bestOf
+  one-more j end within h e = rw (add-one j, e, stopping-at j within h) (sym (or-ends end (endAt best stop j)))
 
 -- of the ends below j the best
-record Ending (best : List Float) (back : List ℕ) (stop : List Float) (n : ℕ) (end : End) (j : ℕ) : Type 0 where
+record Ending (best stop : List Float) (n since : ℕ) (end : End) (j : ℕ) : Type 0 where
+  begun : since < j
   bounded : j ≤ n
-  chosen : (q : Problem) → StopsOf q stop n → (cells : ℕ → Cell Marked) → Row best back first n cells → endCell end ≡ bestOf higherEnd j (stopping q cells)
+  chosen :
+      (q : Problem) → StopsOf q stop n → (back : List ℕ) (cells : ℕ → Cell Marked) → Row best back first n cells → ReachedFrom cells n since →
+      bestOf higherEnd j (stopping q cells) ≡ held (endedBy end)
 
 abbrev Inv-loop : tie.InvT-loop
-Inv-loop best back stop n end₀ j₀ end j = Ending best back stop n end j
+Inv-loop best stop n since end₀ j₀ end j = Ending best stop n since end j
 
 abbrev μ-loop : tie.MeasureT-loop
-μ-loop best back stop n end₀ j₀ end j = n - j
+μ-loop best stop n since end₀ j₀ end j = n - j
 
-loop-holds : tie.Need-loop-holds Inv-loop μ-loop
-unfolding bestOf
-loop-holds c = record { bounded = omega arith; chosen = λ q stops cells row. refl }
+mul-t7 : tie.Need-mul-t7 Inv-loop μ-loop
+mul-t7 c = omega arith
 
-mul-if1 : tie.Need-mul-if1 Inv-loop μ-loop
-mul-if1 c = omega arith
+shared-slice-read-t9 : tie.Need-shared-slice-read-t9 Inv-loop μ-loop
+shared-slice-read-t9 c = omega arith
 
-shared-slice-read-if1 : tie.Need-shared-slice-read-if1 Inv-loop μ-loop
-shared-slice-read-if1 c = omega arith
+mul-t10 : tie.Need-mul-t10 Inv-loop μ-loop
+mul-t10 c = omega arith
 
-mul-or-at : tie.Need-mul-or-at Inv-loop μ-loop
-mul-or-at c = omega arith
-
-shared-slice-read-or-at : tie.Need-shared-slice-read-or-at Inv-loop μ-loop
-shared-slice-read-or-at c = omega arith
-
-mul-or-at-2 : tie.Need-mul-or-at-2 Inv-loop μ-loop
-mul-or-at-2 c = omega arith
-
-shared-slice-read-or-at-2 : tie.Need-shared-slice-read-or-at-2 Inv-loop μ-loop
-shared-slice-read-or-at-2 c = omega arith
-
-or-at-requires : tie.Need-or-at-requires Inv-loop μ-loop
-or-at-requires c κs = search needs
+shared-slice-read-t12 : tie.Need-shared-slice-read-t12 Inv-loop μ-loop
+shared-slice-read-t12 c = omega arith
 
 add-j : tie.Need-add-j Inv-loop μ-loop
 add-j c = omega arith
+
+loop-holds : tie.Need-loop-holds Inv-loop μ-loop
+loop-holds c =
+    let start = c .before .before .before .before in
+    record {
+      begun = omega arith;
+      bounded = omega (arith, start .pre .0);
+      chosen = λ q stops back cells row reach. first-end stops (start .args .best .now) back row reach (start .pre .0);
+    }
+
+mul-t15 : tie.Need-mul-t15 Inv-loop μ-loop
+mul-t15 c = omega arith
+
+shared-slice-read-t17 : tie.Need-shared-slice-read-t17 Inv-loop μ-loop
+shared-slice-read-t17 c = omega arith
+
+mul-t18 : tie.Need-mul-t18 Inv-loop μ-loop
+mul-t18 c = omega arith
+
+shared-slice-read-t20 : tie.Need-shared-slice-read-t20 Inv-loop μ-loop
+shared-slice-read-t20 c = omega arith
+
+or-requires : tie.Need-or-requires Inv-loop μ-loop
+or-requires c κs = search needs
+
+add-j-2 : tie.Need-add-j-2 Inv-loop μ-loop
+add-j-2 c = omega arith
 
 loop-less : tie.Need-loop-less Inv-loop μ-loop
 loop-less c = omega arith
 
 loop-again : tie.Need-loop-again Inv-loop μ-loop
 loop-again c =
-    let at = c .before .before .before in
-    let a = c .before .before .before .before .before .before .before .args in
-    let j = at .loop .j in
-    let below : j < a .n = c .before .before .loop-test .taken in
-    ⊎-elim
-    (λ w. record {
+    let start = c .before .before .before .before .before .before .before .before .before in
+    let l = c .before .before .before .before .loop in
+    let turning = c .before .before .before .loop-test .taken in
+    record {
+      begun = omega (arith, l .inv .begun);
       bounded = omega arith;
-      chosen = λ q stops cells row.
-          ap endCell (w .4) ∙ w .3 .ensures ∙ ap (λ (e : Cell Ended). keep higherEnd e (held (record { sum = sub binary64 (getD (a .best .now) j nan) (getD (a .stop .now) j nan); at = j }))) (at .loop .inv .chosen q stops cells row)
-          ∙ sym (reached q cells (a .best .now) (a .back .now) j (row j below) (w .0 .taken) (stops .costs j below)) ∙ one-more q cells j;
-    })
-    (λ w. record {
-      bounded = omega arith;
-      chosen = λ q stops cells row.
-          ap endCell (w .1) ∙ at .loop .inv .chosen q stops cells row
-          ∙ sym (unreached q cells (a .best .now) (a .back .now) j (row j below) (w .0 .left)) ∙ one-more q cells j;
-    })
-    (c .if1 .came)
+      chosen = λ q stops back cells row reach.
+          one-more stops (start .args .best .now) back row reach (l .j) (l .end) turning (omega (arith, l .inv .begun)) (l .inv .chosen q stops back cells row reach)
+          ∙ ap (λ (e : End). held (endedBy e)) (sym (c .or .ensures));
+    }
 
 returns : tie.Need-returns Inv-loop μ-loop
-returns c q stops cells row =
-    let was = c .before .loop .inv in
-    was .chosen q stops cells row
-    ∙ ap (λ (m : ℕ). bestOf higherEnd m (stopping q cells)) (omega (arith, stops .sized))
+returns c q stops back cells row reach =
+    let l = c .before .loop in
+    sym (l .inv .chosen q stops back cells row reach)
+    ∙ ap (λ (m : ℕ). bestOf higherEnd m (stopping q cells)) (omega (arith, stops .sized, l .inv .bounded, c .loop-test .left))
     ∙ chosen-is q cells
 
 pub best-end-spec : {M : Type 1} → statement M
@@ -117,15 +149,18 @@ best-end-spec =
     (tie.spec
     Inv-loop
     μ-loop
-    loop-holds
-    mul-if1
-    shared-slice-read-if1
-    mul-or-at
-    shared-slice-read-or-at
-    mul-or-at-2
-    shared-slice-read-or-at-2
-    or-at-requires
+    mul-t7
+    shared-slice-read-t9
+    mul-t10
+    shared-slice-read-t12
     add-j
+    loop-holds
+    mul-t15
+    shared-slice-read-t17
+    mul-t18
+    shared-slice-read-t20
+    or-requires
+    add-j-2
     loop-less
     loop-again
     returns)

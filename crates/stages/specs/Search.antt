@@ -1,0 +1,41 @@
+-- The words of a stage that the search reads, by the place of each boundary among the kept anchors.
+use Prim.Native.Nat.{ℕ, zero, suc, _+_, _*_, _≤_, _<_}
+use mathlib.Core.Path.{_≡_}
+use mathlib.Core.List.{List}
+use lib.ListN.{length, take, drop, replicate}
+use Rattle.laws.specs.Listed.{listed, tableOf}
+use Rattle.paths.specs.Ranges.{firstReached}
+use Rattle.stages.specs.Room.{most, counts}
+use Rattle.stages.specs.Tables.{tableAt}
+use Rattle.stages.specs.Ranges.{entryOf, Ranged}
+
+-- the first n places are places of a list of this length
+pub record Reaches (places : List ℕ) (n long : ℕ) : Type 0 where
+  pub placed : n ≤ length places
+  pub inside : (j : ℕ) → j < n → entryOf places j < long
+
+-- the first n places leave two frames to read
+pub record Within (frames places : List ℕ) (n : ℕ) : Type 0 where
+  pub some : 0 < length frames
+  pub here : Reaches places n (length frames)
+  pub next : (j : ℕ) → j < n → entryOf places j + 1 < length frames
+
+-- the entry before a place, 0 before the first
+abbrev pub entryBefore : List ℕ → ℕ → ℕ
+entryBefore list zero = 0
+entryBefore list (suc place) = entryOf list place
+
+-- what each count of units reaches, where the table k of the words says where the origins end
+abbrev pub reachedBy : List ℕ → ℕ → ℕ → List ℕ
+reachedBy words k n = listed (firstReached (entryOf (tableAt 1 words)) (entryOf (tableAt k words)) n) counts
+
+-- every word, where those of the spans are still 0
+pub record Lays (frames rows places bounds words : List ℕ) : Type 0 where
+  pub bounded : tableAt 0 words ≡ tableOf (entryOf bounds) (length bounds) most 0
+  pub ranged : Ranged bounds (λ j. entryOf frames (entryOf places j)) (λ j. entryOf frames (entryOf places j + 1))
+      (take (3 * most) (drop most words))
+  pub ranks : tableAt 4 words ≡ tableOf (λ j. entryBefore rows (entryOf places j)) (length bounds) most 0
+  pub spare : take (2 * most) (drop (5 * most) words) ≡ replicate (2 * most) 0
+  pub strict : take counts (drop (7 * most) words) ≡ reachedBy words 2 (length bounds)
+  pub relaxed : take counts (drop (7 * most + counts) words) ≡ reachedBy words 3 (length bounds)
+  pub whole : length words ≡ 7 * most + 2 * counts
