@@ -14,12 +14,13 @@
  *     else uses what is lent until the call returns.
  *
  * Every other input is answered. A value is 0 or more. A refusal is minus its number, -1 to -11
- * (TIKUWERO_STUB and those after it); then all lent memory keeps its bytes. The lowest number that
- * applies is given, save that tikuwero_decode tests 8, 9 and 10 candidate by candidate.
+ * (TIKUWERO_STUB and those after it); then all lent memory keeps its bytes (a NaN stays a NaN). The
+ * lowest number that applies is given, save that tikuwero_decode tests 8, 9 and 10 candidate by
+ * candidate.
  *
  * No call allocates or keeps anything: there is no heap and no static variable, so that calls on
  * different memory may run at the same time. The archive needs memcpy and memset of the C library
- * and nothing else. tikuwero_decode takes 11,400 bytes of stack on x86-64, whatever the record
+ * and nothing else. tikuwero_decode takes 12,984 bytes of stack on x86-64, whatever the record
  * (measured, not proved).
  *
  * A frame is 10 ms. A mask has a byte for each frame, 1 where the frame has the mark and else 0; a
@@ -36,8 +37,8 @@
 extern "C" {
 #endif
 
-/* The refusals. docs/FORMAT.md has the limits of a record. It gives TIKUWERO_SIZE also where it has
- * no columns, or added boundaries but no anchors, and TIKUWERO_TRACK also where a list is not
+/* The refusals. docs/FORMAT.md has the limits of a record. A record gives TIKUWERO_SIZE also where it
+ * has no columns, or added boundaries but no anchors, and TIKUWERO_TRACK also where a list is not
  * strictly increasing or speech edges are bad. */
 enum {
     TIKUWERO_STUB = 1,    /* the record has fewer than 64 or more than 65,536 bytes */
@@ -87,9 +88,11 @@ static inline const char *tikuwero_refusal_word(int32_t returned)
 #define TIKUWERO_LAST_FRAME 4095
 #define TIKUWERO_NONE UINT32_C(4294967295)
 
-/* Words of an entry. From TIKUWERO_ENTRY_UNITS on there are 16 triples start, end, row: the unit
- * takes the frames start..end, and row is that of its anchor's scores (nuclei, then added anchors)
- * or TIKUWERO_NONE. Triples past the number of units are 0. */
+/* Words of an entry. From TIKUWERO_ENTRY_UNITS on there are 16 triples start, end, row: row is that
+ * of the scores of the unit's anchor (nuclei, then added anchors) or TIKUWERO_NONE. start..end is
+ * that anchor's span, as tikuwero_tbu_spans has it for the anchors and boundaries of the stage; it
+ * may be other than the frames that were scored as the unit. A unit without an anchor has its own
+ * frames, cut where its neighbours' spans are. Triples past the number of units are 0. */
 enum {
     TIKUWERO_ENTRY_ID = 0,
     TIKUWERO_ENTRY_LLR = 1, /* the score: the bits of a float */
@@ -165,7 +168,8 @@ int32_t tikuwero_rate_s(const uint32_t *frames, size_t n, double default_s, doub
  * its start and its end, by ascending nucleus; its words past them are untouched.
  *
  * Refuses with 3: n or b above TIKUWERO_MAX_FRAMES; 5: a frame or an edge above
- * TIKUWERO_LAST_FRAME; 11: out_len below two words for each distinct nucleus. */
+ * TIKUWERO_LAST_FRAME, also where there is no nucleus; 11: out_len below two words for each
+ * distinct nucleus. */
 int32_t tikuwero_tbu_spans(const uint32_t *nuclei, size_t n, const uint32_t *bounds, size_t b,
                            uint32_t lo_edge, uint32_t hi_edge, uint32_t *out, size_t out_len);
 

@@ -1,14 +1,16 @@
 #!/usr/bin/env python3
 """The wrong programs that were tried against each public function of the libraries.
 
-tools/wrong.py list [CRATE...]   each public function with the edits that make a wrong program of it; the exit status
-                                 is 1 if one has fewer than two
+tools/wrong.py list [CRATE...]   each public function with the edits that make a wrong program of it, and each edit
+                                 that cannot be applied; the exit status is 1 if there is such an edit, or a
+                                 function with fewer than two
 tools/wrong.py try CRATE...      apply the edits of crates/CRATE/tried/, and show for each the first parts of the
                                  proof that are missed; the exit status is 1 if none is
 
 The gate tries the edits of crates/CRATE/must-fail/. Those of crates/CRATE/tried/ are left to this program, since each
 proves its crate again. An edit counts for the function whose text it changes and, where that is a private function or
-a constant, for the public functions of the crate that use it. Edits of definitions are not listed.
+a constant, for the public functions of the crate that use it. Edits of definitions are not listed as wrong programs.
+An edit can be applied where each of its old texts stands just once in its file.
 """
 import re
 import shutil
@@ -24,12 +26,13 @@ HEAD = re.compile(r'^ *(pub(?:\(crate\))? )?(?:extern "C" )?(?:fn|const) (\w+)',
 USE = re.compile(r"\b(\w+)\(|\b([A-Z][A-Z0-9_]+)\b")
 MISSED = re.compile(r"/(?:proofs|src)/(\S+?)(?:/Proof.antt)?:\d+:\d+: (?:error: `([^`]+)`|it is not proved .*\(`([^`]+)`)")
 Item = namedtuple("Item", "name file public text")
+Edit = namedtuple("Edit", "label replacements")
+Replacement = namedtuple("Replacement", "file old new")
 
 
-def libraries():
+def listed():
     lines = (TOP / "crates.txt").read_text().splitlines()
-    names = [line.split(":")[0] for line in lines if line and not line.startswith("#")]
-    return [name for name in names if name not in PROGRAMS]
+    return [line.split(":")[0] for line in lines if line and not line.startswith("#")]
 
 
 def items_of(crate):
@@ -42,34 +45,78 @@ def items_of(crate):
             yield Item(head[2], str(path.relative_to(crate)), head[1] == "pub ", text[head.start() : end])
 
 
+def replacements_of(text):
+    """A `file` line holds for the pairs of `old` and `new` after it; every other line is a comment."""
+    file = old = ""
+    for word, rest in re.findall(r"^(file: |old: |new: ?)(.*)$", text, re.M):
+        if word == "file: ":
+            file = rest
+        elif word == "old: ":
+            old = rest
+        else:
+            yield Replacement(file, old, rest)
+            old = ""
+
+
 def edits_of(crate):
-    """The label, file and old text of each edit of a crate."""
     for path in sorted(crate.glob("must-fail/*.edit")) + sorted(crate.glob("tried/*.edit")):
-        fields = dict(re.findall(r"^(file|old): (.*)$", path.read_text(), re.M))
-        yield path.stem, fields["file"], fields["old"]
+        yield Edit(f"{path.parent.name}/{path.stem}", list(replacements_of(path.read_text())))
+
+
+def fault_of(crate, edit):
+    """Why an edit cannot be applied, one replacement after the other as `rt must-fail` does it, or None."""
+    texts = {}
+    for file, old, new in edit.replacements:
+        if not (crate / file).is_file():
+            return f"there is no file `{file}`"
+        text = texts.setdefault(file, (crate / file).read_text())
+        times = text.count(old) if old else 0
+        if times != 1:
+            return f"`{old}` stands {times} times in {file}"
+        texts[file] = text.replace(old, new)
+    return None if edit.replacements else "it has no old and new text"
+
+
+def changes(edit, item):
+    return any(file == item.file and old in item.text for file, old, _ in edit.replacements)
 
 
 def labels_of(item, inner, edits, seen):
-    labels = {label for label, file, old in edits if file == item.file and old in item.text}
+    labels = {Path(edit.label).name for edit in edits if changes(edit, item)}
     used = {call or constant for call, constant in USE.findall(item.text)}
     for name in used & inner.keys() - seen:
         labels |= labels_of(inner[name], inner, edits, seen | {name})
     return labels
 
 
-def show(crates):
+def show_functions(name, crate, edits):
+    """Prints the public functions of a crate with their edits; how many of them have fewer than two."""
     lacking = 0
+    items = list(items_of(crate))
+    inner = {item.name: item for item in items if not item.public or item.name.isupper()}
+    for item in items:
+        if item.public and not item.name.isupper():
+            labels = labels_of(item, inner, edits, {item.name})
+            lacking += len(labels) < 2
+            print(f"{name}::{item.name}: {', '.join(sorted(labels)) or 'none'}")
+    return lacking
+
+
+def show(crates):
+    lacking, faults = 0, []
     for name in crates:
         crate = TOP / "crates" / name
-        items, edits = list(items_of(crate)), list(edits_of(crate))
-        inner = {item.name: item for item in items if not item.public or item.name.isupper()}
-        for item in items:
-            if item.public and not item.name.isupper():
-                labels = labels_of(item, inner, edits, {item.name})
-                lacking += len(labels) < 2
-                print(f"{name}::{item.name}: {', '.join(sorted(labels)) or 'none'}")
-    print(f"{lacking} public functions with fewer than two")
-    return lacking > 0
+        if not crate.is_dir():
+            sys.exit(f"crates/{name}: no such folder")
+        edits = list(edits_of(crate))
+        found = ((edit, fault_of(crate, edit)) for edit in edits)
+        faults += [f"crates/{name}/{edit.label}.edit: {fault}" for edit, fault in found if fault]
+        if name not in PROGRAMS:
+            lacking += show_functions(name, crate, edits)
+    for fault in faults:
+        print(fault)
+    print(f"{lacking} public functions with fewer than two; {len(faults)} edits that cannot be applied")
+    return lacking > 0 or bool(faults)
 
 
 def attempt(crates):
@@ -90,7 +137,7 @@ def attempt(crates):
 if __name__ == "__main__":
     action, names = sys.argv[1:2], sys.argv[2:]
     if action == ["list"]:
-        sys.exit(show(names or libraries()))
+        sys.exit(show(names or listed()))
     if action == ["try"] and names:
         sys.exit(attempt(names))
     sys.exit(__doc__)
