@@ -95,7 +95,12 @@ fn joins(r: &mut Random) -> Call {
 }
 
 fn tail(r: &mut Random) -> Call {
-    let (pitched, vowel_speech) = (mask(r), mask(r));
+    let pitched = if r.once_in(2) { mask(r) } else { runs(r) };
+    let vowel_speech = if r.once_in(2) {
+        mask(r)
+    } else {
+        vec![1; r.below(60)]
+    };
     let (start, end) = edges(r, pitched.len());
     let next = (!r.once_in(3)).then(|| end.saturating_add(r.below(12) as u32));
     Call::Tail(start, end, next, pitched, vowel_speech)
@@ -119,6 +124,17 @@ fn frames(r: &mut Random) -> Vec<u32> {
     (0..n)
         .map(|_| if wild { frame(r) } else { r.below(90) as u32 })
         .collect()
+}
+
+/// A mask in runs of up to 9 frames, so that stretches without a mark, as a creaky tail has, occur.
+fn runs(r: &mut Random) -> Vec<u8> {
+    let frames = r.below(60);
+    let mut mask = Vec::new();
+    while mask.len() < frames {
+        let marked = u8::from(mask.last() == Some(&0));
+        mask.resize(mask.len() + r.between(1, 9), marked);
+    }
+    mask
 }
 
 fn mask(r: &mut Random) -> Vec<u8> {
