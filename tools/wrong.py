@@ -10,7 +10,7 @@ tools/wrong.py try CRATE...      apply the edits of crates/CRATE/tried/, and sho
 The gate tries the edits of crates/CRATE/must-fail/. Those of crates/CRATE/tried/ are left to this program, since each
 proves its crate again. An edit counts for the function whose text it changes and, where that is a private function or
 a constant, for the public functions of the crate that use it. Edits of definitions are not listed as wrong programs.
-An edit can be applied where each of its old texts stands just once in its file.
+An edit can be applied where each of its old texts stands just once in its file and has a new one.
 """
 import re
 import shutil
@@ -46,16 +46,17 @@ def items_of(crate):
 
 
 def replacements_of(text):
-    """A `file` line holds for the pairs of `old` and `new` after it; every other line is a comment."""
+    """A `file` line holds for the pairs of `old` and `new` after it; every other line is a comment. An `old` that a `file`,
+    another `old` or the end follows has None for its new text."""
     file = old = ""
-    for word, rest in re.findall(r"^(file: |old: |new: ?)(.*)$", text, re.M):
-        if word == "file: ":
-            file = rest
-        elif word == "old: ":
-            old = rest
-        else:
+    for word, rest in re.findall(r"^(file: |old: |new: ?)(.*)$", text + "\nfile: the end", re.M):
+        if word.startswith("new:"):
             yield Replacement(file, old, rest)
             old = ""
+        else:
+            if old:
+                yield Replacement(file, old, None)
+            file, old = (rest, "") if word == "file: " else (file, rest)
 
 
 def edits_of(crate):
@@ -73,6 +74,8 @@ def fault_of(crate, edit):
         times = text.count(old) if old else 0
         if times != 1:
             return f"`{old}` stands {times} times in {file}"
+        if new is None:
+            return f"`{old}` has no new text"
         texts[file] = text.replace(old, new)
     return None if edit.replacements else "it has no old and new text"
 

@@ -6,18 +6,19 @@ use mathlib.Core.Option.{Option, none, some}
 use mathlib.Core.Path.{_≡_, refl, ap, _∙_}
 use native.Mathlib.Numerals.{add-one}
 use native.Mathlib.Omega.{arith}
+use Rattle.laws.specs.Rules.{firstOf}
 use Rattle.laws.proofs.Choices.{taken, passed}
 use Rattle.record.specs.Layout.{layoutOf}
 use Rattle.record.specs.Conditions.{repeated, badUnits, badColumn}
-use Rattle.record.specs.Refusals.{firstOf, candidateRules}
-use Rattle.record.specs.declared.limits.Limits.{Limits}
+use Rattle.record.specs.Refusals.{candidateRules}
+use Rattle.limits.specs.declared.edition.Limits.{Limits}
 use Rattle.record.specs.declared.layout.Layout.{Layout}
 use Rattle.record.specs.declared.refusal.Refusal.{Refusal}
 use Rattle.record.specs.declared.refusal.Refusal.the-variants.{Twice, Units, Column}
 
 -- what the rules of the candidates from i up to n find
 abbrev pub rest : Limits → List ℕ → ℕ → ℕ → Option Refusal
-rest l bytes n i = firstOf (candidateRules l i (n - i)) bytes
+rest l bytes n i = firstOf (candidateRules l bytes i (n - i))
 
 -- the three rules of candidate i, then those of the candidates after it
 abbrev one : Limits → List ℕ → ℕ → ℕ → Layout → Option Refusal
@@ -25,22 +26,22 @@ one l bytes n i at =
     cond (repeated l bytes at i) (some Twice) (cond (badUnits l bytes at i) (some Units) (cond (badColumn l bytes at i) (some Column) (rest l bytes n (i + 1))))
 
 module _ (l : Limits) (bytes : List ℕ) (n : ℕ) where
-  pub rest-all : rest l bytes n 0 ≡ firstOf (candidateRules l 0 n) bytes
+  pub rest-all : rest l bytes n 0 ≡ firstOf (candidateRules l bytes 0 n)
   rest-all =
       let left : n - 0 ≡ n = omega arith in
-      ap (λ (k : ℕ). firstOf (candidateRules l 0 k) bytes) left
+      ap (λ (k : ℕ). firstOf (candidateRules l bytes 0 k)) left
 
   pub rest-done : (i : ℕ) → n ≤ i → rest l bytes n i ≡ none
   unfolding firstOf candidateRules
   rest-done i past =
       let left : n - i ≡ 0 = omega arith in
-      ap (λ (k : ℕ). firstOf (candidateRules l i k) bytes) left
+      ap (λ (k : ℕ). firstOf (candidateRules l bytes i k)) left
 
   step : (i : ℕ) → i < n → one l bytes n i (layoutOf bytes) ≡ rest l bytes n i
   unfolding firstOf candidateRules
   step i below =
       let left : suc (n - (i + 1)) ≡ n - i = omega arith in
-      rw (add-one i) refl ∙ ap (λ (k : ℕ). firstOf (candidateRules l i k) bytes) left
+      rw (add-one i) refl ∙ ap (λ (k : ℕ). firstOf (candidateRules l bytes i k)) left
 
   module _ (at : Layout) (is : at ≡ layoutOf bytes) (i : ℕ) (below : i < n) where
     one-rest : one l bytes n i at ≡ rest l bytes n i

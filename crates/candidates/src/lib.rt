@@ -1,53 +1,21 @@
 // Refusals 8, 9 and 10, candidate by candidate, after `check_candidates`.
 
-use record::bytes::byte_at;
-use record::bytes::u32_at;
+use fields::column_at;
+use fields::id_at;
+use fields::units_at;
+use limits::edition::Limits;
 use record::layout::Layout;
-use record::limits::Limits;
 use record::refusal::Checked;
 use record::refusal::Refusal;
 ghost use mathlib.Core.Bool.{false};
 ghost use mathlib.Core.Path.{_≡_};
-ghost use Prim.Native.Nat.{_+_, _≤_, _<_};
+ghost use Prim.Native.Nat.{_<_};
 ghost use lib.ListN.{length};
-ghost use Rattle.record.specs.Bounds.{CandidatesRead};
+ghost use Rattle.record.specs.inner.Bounds.{CandidatesRead};
 ghost use Rattle.record.specs.Layout.{layoutOf};
-ghost use Rattle.record.specs.Conditions.{candidateStart, idAt, unitsAt, columnAt, repeated, badUnits, badColumn};
-ghost use Rattle.record.specs.Refusals.{answer, firstOf, candidateRules};
-
-// Where candidate `i` stands: its entry lies within the record.
-fn candidate_start(bytes: &[u8], limits: Limits, at: Layout, i: usize) -> usize
-    requires { ⌜ CandidatesRead limits (length (now bytes)) at ⌝ }
-    requires { ⌜ i < at .candidates .count ⌝ }
-    ensures { λ r. ⌜ (r ≡ candidateStart limits at i) × (r + limits .«candidate_bytes» ≤ length (now (bytes .entry))) ⌝ }
-{
-    at.candidates.start + limits.candidate_bytes * i
-}
-
-pub fn id_at(bytes: &[u8], limits: Limits, at: Layout, i: usize) -> u32
-    requires { ⌜ CandidatesRead limits (length (now bytes)) at ⌝ }
-    requires { ⌜ i < at .candidates .count ⌝ }
-    ensures { λ r. ⌜ r ≡ idAt limits (now (bytes .entry)) at i ⌝ }
-{
-    u32_at(bytes, candidate_start(bytes, limits, at, i))
-}
-
-pub fn units_at(bytes: &[u8], limits: Limits, at: Layout, i: usize) -> usize
-    requires { ⌜ CandidatesRead limits (length (now bytes)) at ⌝ }
-    requires { ⌜ i < at .candidates .count ⌝ }
-    ensures { λ r. ⌜ r ≡ unitsAt limits (now (bytes .entry)) at i ⌝ }
-{
-    u32_at(bytes, candidate_start(bytes, limits, at, i) + 4) as usize
-}
-
-pub fn column_at(bytes: &[u8], limits: Limits, at: Layout, i: usize, j: usize) -> usize
-    requires { ⌜ CandidatesRead limits (length (now bytes)) at ⌝ }
-    requires { ⌜ i < at .candidates .count ⌝ }
-    requires { ⌜ j < limits .units ⌝ }
-    ensures { λ r. ⌜ r ≡ columnAt limits (now (bytes .entry)) at i j ⌝ }
-{
-    byte_at(bytes, candidate_start(bytes, limits, at, i) + 8 + j) as usize
-}
+ghost use Rattle.record.specs.Conditions.{repeated, badUnits, badColumn};
+ghost use Rattle.laws.specs.Rules.{firstOf};
+ghost use Rattle.record.specs.Refusals.{answer, candidateRules};
 
 fn repeated(bytes: &[u8], limits: Limits, at: Layout, i: usize) -> bool
     requires { ⌜ CandidatesRead limits (length (now bytes)) at ⌝ }
@@ -96,7 +64,7 @@ fn bad_column(bytes: &[u8], limits: Limits, at: Layout, i: usize) -> bool
 pub fn check_candidates(bytes: &[u8], limits: Limits, at: Layout) -> Checked
     requires { ⌜ CandidatesRead limits (length (now bytes)) at ⌝ }
     requires { ⌜ at ≡ layoutOf (now bytes) ⌝ }
-    ensures { λ r. ⌜ r ≡ answer (firstOf (candidateRules limits 0 (at .candidates .count)) (now (bytes .entry))) at ⌝ }
+    ensures { λ r. ⌜ r ≡ answer (firstOf (candidateRules limits (now (bytes .entry)) 0 (at .candidates .count))) at ⌝ }
 {
     let count = at.candidates.count;
     let mut i = 0;

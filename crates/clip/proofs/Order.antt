@@ -3,8 +3,8 @@ use Prim.Native.Nat.{ℕ, _≤_, max}
 use mathlib.Core.List.{List, [], _∷_}
 use native.Mathlib.Omega.{arith}
 use Rattle.clip.specs.Clip.{Placed, anchored, unanchored, nextStart, clipped, reportAfter, firstStart, reported}
-use Rattle.clip.specs.Order.{RowsInOrder}
-use Rattle.frames.specs.Order.{InOrder}
+use Rattle.clip.specs.theory.Order.{RowsInOrder}
+use Rattle.frames.specs.theory.Order.{InOrder}
 
 -- The rows after a gap are in order from any frame of the gap on.
 from-gap : (units : List Placed) (low otherwise frame : ℕ) → RowsInOrder low units → frame ≤ max (nextStart otherwise units) low → RowsInOrder frame units

@@ -9,9 +9,10 @@ use native.Mathlib.Nat.{sub-zero}
 use lib.Dec.{eqb}
 use lib.ListN.{length, getD, take, set}
 use lib.Seq.{take-suc-set, take-all}
+use Rattle.limits.specs.Common.{absent}
 use Rattle.frames.specs.declared.span.Span.{Span}
 use Rattle.clip.specs.Clip.{Placed, anchored, unanchored, nearest, clipped, reportAfter, given, reported}
-use Rattle.clip.specs.Units.{noRow, unitsFrom, reportAt}
+use Rattle.clip.specs.inner.Units.{placedRange, reportAt}
 use Rattle.clip.proofs.Units.{units-next, units-end, units-past}
 
 pub clip-is : (path : Span) (low next high start end : ℕ) → high ≡ max next low → start ≡ nearest low high (path .start) → end ≡ nearest start high (path .end)
@@ -23,11 +24,12 @@ clip-is path low next high start end eh es ee =
 -- The spans so far and those to come, of which one figure is looked at: one more unit reported changes nothing.
 pub figure-step : (f : Span → ℕ) (l starts ends rows : List ℕ) (s low : ℕ) (span : Span) → span ≡ reportAt low starts ends rows s → s < length rows → s < length l
     → take (s + 1) (set l s (f span))
-    ++ map f (reportAfter (span .end) (unitsFrom (set starts s (span .start)) (set ends s (span .end)) rows (s + 1) (length rows - (s + 1))))
-    ≡ take s l ++ map f (reportAfter low (unitsFrom starts ends rows s (length rows - s)))
+    ++ map f (reportAfter (span .end)
+    (placedRange (set starts s (span .start)) (set ends s (span .end)) rows (s + 1) (length rows - (s + 1))))
+    ≡ take s l ++ map f (reportAfter low (placedRange starts ends rows s (length rows - s)))
 unfolding reportAfter
 figure-step f l starts ends rows s low span e h k =
-    let later = unitsFrom starts ends rows (s + 1) (length rows - (s + 1)) in
+    let later = placedRange starts ends rows (s + 1) (length rows - (s + 1)) in
     ap₂ _++_ (ap (λ (n : ℕ). take n (set l s (f span))) (add-one s) ∙ take-suc-set l s (f span) k)
     (ap (λ (units : List Placed). map f (reportAfter (span .end) units)) (units-past starts ends rows (span .start) (span .end) s (s + 1) (length rows - (s + 1)) (omega arith)))
     ∙ append-assoc (take s l) (f span ∷ []) (map f (reportAfter (span .end) later))
@@ -36,7 +38,7 @@ figure-step f l starts ends rows s low span e h k =
 
 -- after the last unit nothing is to come
 pub figure-end : (f : Span → ℕ) (l starts ends rows : List ℕ) (s low : ℕ) → length rows ≤ s → length l ≤ s
-    → l ≡ take s l ++ map f (reportAfter low (unitsFrom starts ends rows s (length rows - s)))
+    → l ≡ take s l ++ map f (reportAfter low (placedRange starts ends rows s (length rows - s)))
 unfolding reportAfter
 figure-end f l starts ends rows s low h k =
     sym (take-all s l k) ∙ sym (append-nil (take s l))
@@ -48,17 +50,18 @@ given-start false span = refl
 
 -- the first unit is reported from its own start on
 pub reported-from : (starts ends rows : List ℕ) (n : ℕ)
-    → reported (unitsFrom starts ends rows 0 n) ≡ reportAfter (getD starts 0 0) (unitsFrom starts ends rows 0 (n - 0))
-unfolding reported unitsFrom
+    → reported (placedRange starts ends rows 0 n) ≡ reportAfter (getD starts 0 0) (placedRange starts ends rows 0 (n - 0))
+unfolding reported placedRange
 reported-from starts ends rows zero = refl
 reported-from starts ends rows (suc n) =
-    ap (λ (low : ℕ). reportAfter low (unitsFrom starts ends rows 0 (suc n)))
-    (given-start (eqb (getD rows 0 0) noRow) (record { start = getD starts 0 0; end = getD ends 0 0 }))
-    ∙ ap (λ (m : ℕ). reportAfter (getD starts 0 0) (unitsFrom starts ends rows 0 m)) (sym (sub-zero (suc n)))
+    ap (λ (low : ℕ). reportAfter low (placedRange starts ends rows 0 (suc n)))
+    (given-start (eqb (getD rows 0 0) absent) (record { start = getD starts 0 0; end = getD ends 0 0 }))
+    ∙ ap (λ (m : ℕ). reportAfter (getD starts 0 0) (placedRange starts ends rows 0 m)) (sym (sub-zero (suc n)))
 
-pub reported-none : (f : Span → ℕ) (l starts ends rows : List ℕ) → length rows ≡ 0 → length l ≡ 0 → l ≡ map f (reported (unitsFrom starts ends rows 0 (length rows)))
-unfolding reported unitsFrom
-reported-none f [] starts ends rows h k = sym (ap (λ (n : ℕ). map f (reported (unitsFrom starts ends rows 0 n))) h)
+pub reported-none : (f : Span → ℕ) (l starts ends rows : List ℕ)
+    → length rows ≡ 0 → length l ≡ 0 → l ≡ map f (reported (placedRange starts ends rows 0 (length rows)))
+unfolding reported placedRange
+reported-none f [] starts ends rows h k = sym (ap (λ (n : ℕ). map f (reported (placedRange starts ends rows 0 n))) h)
 reported-none f (x ∷ l) starts ends rows h k = absurd (some k)
   where
     some : suc (length l) ≡ 0 → ⊥

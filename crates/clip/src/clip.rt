@@ -2,15 +2,16 @@
 
 use frames::list::larger;
 use frames::span::Span;
+use limits::common::ABSENT;
 ghost use mathlib.Core.Path.{_≡_};
 ghost use mathlib.Core.List.{List};
 ghost use Prim.Native.Nat.{ℕ, _-_, _<_, _≤_, min, max};
 ghost use lib.ListN.{length};
 ghost use Rattle.clip.specs.Clip.{nextStart};
-ghost use Rattle.clip.specs.Units.{unitsFrom, placedFrom, reportAt, Alike, Clipped};
+ghost use Rattle.clip.specs.inner.Units.{placedRange, placedFrom, reportAt, Alike, Clipped};
 
 // Stands for the row of a unit without an anchor.
-pub const NO_ROW: u32 = 4294967295;
+pub const NO_ROW: u32 = ABSENT;
 
 // The nearest frame from `low` to `high`, which is not below `low`.
 fn nearest(low: u32, high: u32, frame: u32) -> u32
@@ -23,7 +24,7 @@ fn nearest(low: u32, high: u32, frame: u32) -> u32
 // Where the first anchored unit from number `from` on starts, or `otherwise`.
 fn next_start(starts: &[u32], rows: &[u32], from: usize, otherwise: u32) -> u32
     requires { ⌜ (length (now starts) ≡ length (now rows)) × (from ≤ length (now rows)) ⌝ }
-    ensures { λ r. ⌜ ((ends : List ℕ) → r ≡ nextStart otherwise (unitsFrom (now (starts .entry)) ends (now (rows .entry)) from (length (now (rows .entry)) - from))) ⌝ }
+    ensures { λ r. ⌜ ((ends : List ℕ) → r ≡ nextStart otherwise (placedRange (now (starts .entry)) ends (now (rows .entry)) from (length (now (rows .entry)) - from))) ⌝ }
 {
     let mut at = from;
     while at < rows.len() {

@@ -9,7 +9,7 @@ use Rattle.laws.proofs.Numbers.{by-order, row-within}
 use Rattle.paths.specs.Problem.{Problem}
 use Rattle.paths.specs.Cell.{empty}
 use Rattle.paths.specs.CellRule.{rows}
-use Rattle.paths.specs.Marks.{marks}
+use Rattle.paths.specs.inner.Marks.{marks}
 use Rattle.stages.specs.Tables.{StageTables}
 use Rattle.rows.specs.Rows.{HoldsAt, Same, FirstRow}
 use Rattle.rows.proofs.Cells.{same-refl, same-trans, same-holds}

@@ -15,12 +15,12 @@ use Rattle.paths.specs.declared.passes.Strictness.{Strictness}
 use Rattle.paths.specs.declared.passes.Strictness.the-variants.{Strict, Relaxed}
 use Rattle.paths.specs.Frames.{Increasing, withinMask}
 use Rattle.paths.specs.Anchors.{Anchor, select, numbered, keptIn, kept, heldIn, rowOr}
-use Rattle.paths.specs.Ranges.{goesTo, lowOrigin, originsEnd, inRange, Origins, firstReached, before, lastOf, rowBefore}
+use Rattle.paths.specs.inner.Ranges.{goesTo, lowOrigin, originsEnd, inRange, Origins, firstReached, before, lastOf, rowBefore}
 use Rattle.paths.specs.StageProblem.{scoreOf, unitValueOf, boundary, problemOf}
 use Rattle.paths.proofs.Rising.{Rising, kept-rising}
 use Rattle.paths.proofs.Ranges.{origins, held-in-range, any-relaxed, one-in-range, strict-inside, fits-in-range}
 use Rattle.paths.proofs.Reached.{reached-same}
-use Rattle.stages.specs.Room.{most}
+use Rattle.limits.specs.Capacity.{mostBoundaries}
 use Rattle.stages.specs.Tables.{StageTables, Tabled}
 use Rattle.closed.specs.Searched.{lowIn, endIn, Readable}
 use Rattle.closed.specs.Asked.{Agrees}
@@ -59,7 +59,7 @@ every-last (more h none) = more h none
 every-last (more h (more k rest)) = every-last (more k rest)
 
 module _ (phrase : Phrase) (stage : Stage) (t : StageTables) (tabled : Tabled phrase stage t) (anchorsUp : Increasing (stage .anchors))
-    (boundsUp : Increasing (stage .boundaries)) (few : length (stage .boundaries) ≤ most) where
+    (boundsUp : Increasing (stage .boundaries)) (few : length (stage .boundaries) ≤ mostBoundaries) where
   rising : Rising 0 (kept phrase stage)
   rising = kept-rising (phrase .mask) (stage .firstRow) (stage .anchors) anchorsUp
 

@@ -10,7 +10,7 @@ use Rattle.paths.specs.Problem.{Problem}
 use Rattle.paths.specs.Path.{Path as Route, begin, gap, unit, end as endOf, sum, Bounds, unitsOf}
 use Rattle.paths.specs.Cell.{Cell, empty, held, keep, best as bestOf, carry}
 use Rattle.paths.specs.CellRule.{rows, paths, chosenPath}
-use Rattle.paths.specs.Marks.{Marked, marks, markAt, End as Ended, ended, Traces}
+use Rattle.paths.specs.inner.Marks.{Marked, marks, markAt, End as Ended, ended, Traces}
 use Rattle.paths.proofs.Cells.{held-same}
 use Rattle.paths.proofs.Marks.{Kept, kept-begin, kept-gap, kept-unit, rows-kept, end-chosen, marks-trace}
 use Rattle.rows.specs.declared.end.End.{End}

@@ -8,7 +8,7 @@ use lib.ListN.{length}
 use Rattle.laws.proofs.Numbers.{by-order}
 use Rattle.paths.specs.Problem.{Problem}
 use Rattle.paths.specs.Cell.{Cell}
-use Rattle.paths.specs.Marks.{Marked}
+use Rattle.paths.specs.inner.Marks.{Marked}
 use Rattle.rows.specs.Rows.{Row, Same, GapsOf, first, next, unfilled}
 use Rattle.rows.specs.Units.{RowTables, UnitsOf, ReachedFrom, nextCells, NextFilled, RowFilled}
 use Rattle.closed.specs.Filled.{rowAt, UnfilledAfter, NextRow, FilledNext}

@@ -6,17 +6,18 @@ use native.Mathlib.Omega.{arith}
 use lib.Ieee.{Float}
 use lib.ListN.{length, take, drop, length-drop}
 use lib.Seq.{length-take-le}
-use Rattle.stages.specs.Room.{most}
+use Rattle.limits.specs.Capacity.{mostBoundaries}
+use Rattle.stages.specs.Lists.{stopsAt}
 use Rattle.stages.specs.Tables.{StageTables, tablesIn}
 use Rattle.rows.specs.Reads.{Lent}
 
 pub record Arrays (t : StageTables) : Type 0 where
-  pub stop : length (t .stop) ≡ most
+  pub stop : length (t .stop) ≡ mostBoundaries
 
 part-long : {A : Type 0} (n at : ℕ) (l : List A) → at + n ≤ length l → length (take n (drop at l)) ≡ n
 part-long n at l h = length-take-le n (drop at l) (omega (arith, length-drop at l))
 
 pub whole : {n : ℕ} {words : List ℕ} {figures : List Float} → Lent words figures → Arrays (tablesIn n words figures)
 whole {words = words} {figures = figures} lent = record {
-  stop = part-long 64 128 figures (omega (arith, lent .figured));
+  stop = part-long mostBoundaries stopsAt figures (omega (arith, lent .figured));
 }

@@ -8,7 +8,7 @@ use lib.ListN.{length, getD, take, drop, length-drop, drop-of-length-le, List·g
 use lib.Seq.{take-all, getD-drop, getD-take, getD-append-add, length-take-le}
 use borrow.Rule.Slice.PartMut.{putMid, same-len-mid}
 use Rattle.paths.specs.Cell.{Cell}
-use Rattle.paths.specs.Marks.{Marked}
+use Rattle.paths.specs.inner.Marks.{Marked}
 use Rattle.rows.specs.Rows.{HoldsAt, Same}
 
 -- the part, and the whole with the part as it was left

@@ -8,16 +8,16 @@ use native.Mathlib.Numerals.{add-one}
 use lib.Dec.{leb}
 use lib.Ieee.{Float}
 use lib.ListN.{getD}
-use Rattle.laws.specs.Range.{firstFrom}
+use Rattle.laws.specs.inner.Range.{firstFrom}
 use Rattle.phrase.specs.declared.costs.Costs.{Costs}
 use Rattle.laws.proofs.Convex.{first-within, first-before, first-found}
 use Rattle.paths.specs.Problem.{Problem}
 use Rattle.paths.specs.Cell.{empty}
 use Rattle.paths.specs.CellRule.{rows, chosenPath}
-use Rattle.paths.specs.Marks.{marks}
-use Rattle.paths.specs.Ranges.{Origins, arrivesFrom, firstReached}
+use Rattle.paths.specs.inner.Marks.{marks}
+use Rattle.paths.specs.inner.Ranges.{Origins, arrivesFrom, firstReached}
 use Rattle.paths.proofs.Reached.{rows-reach, none-chosen}
-use Rattle.stages.specs.Room.{counts}
+use Rattle.limits.specs.Capacity.{unitCounts}
 use Rattle.stages.specs.Tables.{StageTables, sinceIn}
 use Rattle.rows.specs.Units.{ReachedFrom, Begins}
 use Rattle.closed.specs.Searched.{rowWith, lowIn, endIn, Readable}
@@ -39,7 +39,7 @@ module _ (asked : Asked) {scoreRows : ℕ} (readable : Readable (asked .tables) 
 
   -- the row of s units reaches its boundaries from where the table says
   pub reaches :
-      (q : Problem) → Agrees asked q → (s : ℕ) → s < counts → (since : ℕ) → since ≡ getD (sinceIn t (asked .strictness)) s 0 →
+      (q : Problem) → Agrees asked q → (s : ℕ) → s < unitCounts → (since : ℕ) → since ≡ getD (sinceIn t (asked .strictness)) s 0 →
       ReachedFrom (rows q (marks q) s) (t .size) since
   reaches q agrees s h since e j within =
       let sized = agrees .stops .sized in
@@ -47,7 +47,7 @@ module _ (asked : Asked) {scoreRows : ℕ} (readable : Readable (asked .tables) 
       ∙ ap (λ (m : ℕ). leb m j) (ap (λ (n : ℕ). firstReached low end n s) sized ∙ sym (readable .reached s h) ∙ sym e)
 
   pub none-there :
-      (q : Problem) → Agrees asked q → (k : ℕ) → k < counts → t .size ≤ getD (sinceIn t (asked .strictness)) k 0 → chosenPath q k ≡ empty
+      (q : Problem) → Agrees asked q → (k : ℕ) → k < unitCounts → t .size ≤ getD (sinceIn t (asked .strictness)) k 0 → chosenPath q k ≡ empty
   none-there q agrees k h all =
       let sized = agrees .stops .sized in
       none-chosen q (origins q agrees) k
@@ -55,7 +55,7 @@ module _ (asked : Asked) {scoreRows : ℕ} (readable : Readable (asked .tables) 
 
   -- the first boundary of the row after that of s units
   pub begins :
-      (scores : ℕ → Float) (costs : Costs) (s : ℕ) → s + 1 < counts → (before since : ℕ) → before ≡ getD (sinceIn t (asked .strictness)) s 0 →
+      (scores : ℕ → Float) (costs : Costs) (s : ℕ) → s + 1 < unitCounts → (before since : ℕ) → before ≡ getD (sinceIn t (asked .strictness)) s 0 →
       since ≡ getD (sinceIn t (asked .strictness)) (s + 1) 0 → Begins (rowWith t scores costs (asked .strictness)) (t .size) before since
   unfolding firstReached
   begins scores costs s h before since e f = record {

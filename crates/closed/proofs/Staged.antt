@@ -3,7 +3,7 @@ use mathlib.Core.Bool.{true}
 use mathlib.Core.List.{List, [], _∷_}
 use mathlib.Core.Path.{_≡_, sym, ap, subst, subst⁻¹, _∙_}
 use Prim.Native.Nat.{ℕ, suc, _+_, _≤_, _<_}
-use native.Mathlib.Nat.{mul-le-mul-right}
+use native.Mathlib.Nat.{mul-le-mul, le-trans}
 use native.Mathlib.Omega.{arith}
 use lib.Ieee.{Float}
 use lib.ListN.{length}
@@ -17,15 +17,17 @@ use Rattle.paths.specs.Frames.{Increasing}
 use Rattle.paths.specs.Anchors.{kept}
 use Rattle.paths.specs.Passes.{passStage, passStrictness, passProblem, hasNucleus, nonEmpty}
 use Rattle.paths.proofs.Anchors.{keptIn-le}
+use Rattle.limits.specs.inner.Moderate.{Moderate}
+use Rattle.limits.specs.declared.edition.Limits.{Limits}
 use Rattle.record.specs.declared.layout.Layout.{Layout}
-use Rattle.record.specs.Accepted.{StageFit, Laid}
-use Rattle.record.specs.Edition.{edition1}
-use Rattle.record.specs.Layout.{layoutOf}
+use Rattle.record.specs.inner.Accepted.{StageFit, Laid}
+use Rattle.limits.specs.Sizes.{workCells}
+use Rattle.record.specs.Layout.{layoutOf, limitsOf}
 use Rattle.record.specs.Meaning.{phraseOf, phraseAt}
 use Rattle.record.specs.Conditions.{frameAt}
-use Rattle.record.proofs.Accepted.{fit}
+use Rattle.record.proofs.Accepted.{fit, own-moderate}
 use Rattle.record.proofs.Reading.{nuclei-first, added-next}
-use Rattle.stages.specs.Room.{most}
+use Rattle.limits.specs.Capacity.{mostBoundaries}
 use Rattle.stages.specs.Tables.{Tabled, tablesIn}
 use Rattle.rows.specs.Reads.{scoreRows}
 use Rattle.closed.specs.Asked.{Candidate, columnsOf, askedOf, Agrees, cellsFor, Unused, Ready}
@@ -33,16 +35,18 @@ use Rattle.closed.specs.Answered.{passSection, StageLent}
 use Rattle.closed.proofs.Bridge.{agrees, readable}
 
 -- what the tables of a stage are read by
-record Fits (stage : Stage) : Type 0 where
+record Fits (l : Limits) (stage : Stage) : Type 0 where
   anchorsUp : Increasing (stage .anchors)
   boundsUp : Increasing (stage .boundaries)
-  few : length (stage .boundaries) ≤ most
+  allowed : length (stage .boundaries) ≤ l .boundaries
+  few : length (stage .boundaries) ≤ mostBoundaries
 
-fits : {a b : ℕ} {stage : Stage} → b ≤ most → StageFit a b stage → Fits stage
-fits h s = record {
+fits : {l : Limits} {a : ℕ} {stage : Stage} → Moderate l → StageFit a (l .boundaries) stage → Fits l stage
+fits m s = record {
   anchorsUp = λ i k. s .anchors .rising i (suc i) (omega arith) k;
   boundsUp = λ i k. s .boundaries .rising i (suc i) (omega arith) k;
-  few = omega (arith, s .fewBoundaries);
+  allowed = s .fewBoundaries;
+  few = le-trans (s .fewBoundaries) (m .boundaries);
 }
 
 some-there : {A : Type 0} (l : List A) → nonEmpty l ≡ true → 0 < length l
@@ -67,11 +71,11 @@ pass-count laid CountRelaxed = added-count laid
 pass-count laid NucleiRelaxed = boundary-count laid
 
 module _ {bytes : List ℕ} {at : Layout} {costs : Costs} {candidate : ℕ} (given : Candidate bytes at costs candidate) where
-  stage-fits : (pass : Pass) → Fits (passStage (phraseOf bytes) pass)
-  stage-fits NucleiStrict = fits (omega arith) (fit (given .laid) .nuclei)
-  stage-fits CountStrict = fits (omega arith) (fit (given .laid) .added)
-  stage-fits CountRelaxed = fits (omega arith) (fit (given .laid) .added)
-  stage-fits NucleiRelaxed = fits (omega arith) (fit (given .laid) .nuclei)
+  stage-fits : (pass : Pass) → Fits (limitsOf bytes) (passStage (phraseOf bytes) pass)
+  stage-fits NucleiStrict = fits (own-moderate bytes) (fit (given .laid) .nuclei)
+  stage-fits CountStrict = fits (own-moderate bytes) (fit (given .laid) .added)
+  stage-fits CountRelaxed = fits (own-moderate bytes) (fit (given .laid) .added)
+  stage-fits NucleiRelaxed = fits (own-moderate bytes) (fit (given .laid) .nuclei)
 
   rows-within : (pass : Pass) → passStage (phraseOf bytes) pass .firstRow + length (passStage (phraseOf bytes) pass .anchors) ≤ scoreRows (phraseOf bytes)
   rows-within NucleiStrict = omega (arith, nuclei-first bytes)
@@ -101,7 +105,7 @@ module _ {bytes : List ℕ} {at : Layout} {costs : Costs} {candidate : ℕ} (giv
         (agrees (phraseOf bytes) stage (tablesIn n words figures) tabled (f .anchorsUp) (f .boundsUp) (f .few) (passStrictness pass) (columnsOf bytes candidate))
 
     pub pass-ready :
-        {best : List Float} {back : List ℕ} → hasNucleus (phraseOf bytes) ≡ true → Unused best back (edition1 .«work_cells») →
+        {best : List Float} {back : List ℕ} → hasNucleus (phraseOf bytes) ≡ true → Unused best back (workCells (limitsOf bytes)) →
         Ready bytes at costs candidate strictness n words figures best back
     pass-ready voiced unused = record {
       given = given;
@@ -117,8 +121,8 @@ module _ {bytes : List ℕ} {at : Layout} {costs : Costs} {candidate : ℕ} (giv
       };
     }
       where
-        few : suc (length (columnsOf bytes candidate)) ≤ 17
+        few : suc (length (columnsOf bytes candidate)) ≤ suc (limitsOf bytes .units)
         few = omega (arith, fit (given .laid) .candidates candidate (record { id = 0; columns = [] }) (given .listed) .fewUnits)
 
-        cells : cellsFor (askedOf bytes candidate strictness n words figures) ≤ edition1 .«work_cells»
-        cells = omega (arith, mul-le-mul-right n few, tabled .sized, stage-fits pass .few)
+        cells : cellsFor (askedOf bytes candidate strictness n words figures) ≤ workCells (limitsOf bytes)
+        cells = mul-le-mul {m₂ = limitsOf bytes .boundaries} few (omega (arith, tabled .sized, stage-fits pass .allowed))

@@ -8,11 +8,11 @@ use Rattle.phrase.specs.Phrase.{Phrase}
 use Rattle.phrase.specs.declared.costs.Costs.{Costs}
 use Rattle.paths.specs.declared.passes.Strictness.{Strictness}
 use Rattle.paths.specs.Problem.{Problem}
-use Rattle.paths.specs.Ranges.{Origins}
+use Rattle.paths.specs.inner.Ranges.{Origins}
 use Rattle.record.specs.declared.layout.Layout.{Layout}
-use Rattle.record.specs.Accepted.{Laid}
+use Rattle.record.specs.inner.Accepted.{Laid}
 use Rattle.record.specs.Meaning.{phraseOf}
-use Rattle.record.specs.Reading.{candidateOf}
+use Rattle.record.specs.inner.Reading.{candidateOf}
 use Rattle.stages.specs.Tables.{StageTables, tablesIn}
 use Rattle.rows.specs.Rows.{StartsOf, GapsOf, Row, Same, first, unfilled}
 use Rattle.rows.specs.Reads.{Lent, scoreRows}

@@ -4,7 +4,7 @@ use mathlib.Core.List.{List}
 use lib.Ieee.{Float}
 use Rattle.paths.specs.Problem.{Problem}
 use Rattle.paths.specs.Cell.{Cell}
-use Rattle.paths.specs.Marks.{Marked}
+use Rattle.paths.specs.inner.Marks.{Marked}
 use Rattle.rows.specs.Rows.{Row, Same, GapsOf, unfilled}
 use Rattle.rows.specs.Units.{RowTables, UnitsOf, ReachedFrom, nextCells}
 

@@ -7,7 +7,7 @@ use Rattle.paths.specs.Problem.{Problem}
 use Rattle.paths.specs.Path.{Path as Route, sum, Bounds, unitsOf}
 use Rattle.paths.specs.Cell.{Cell, empty, held, carry}
 use Rattle.paths.specs.CellRule.{rows, chosenPath}
-use Rattle.paths.specs.Marks.{marks}
+use Rattle.paths.specs.inner.Marks.{marks}
 use Rattle.rows.specs.Rows.{Row}
 use Rattle.rows.specs.Ends.{StopsOf}
 use Rattle.rows.specs.Units.{ReachedFrom}

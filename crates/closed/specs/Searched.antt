@@ -8,9 +8,9 @@ use lib.ListN.{getD}
 use Rattle.phrase.specs.Phrase.{Phrase}
 use Rattle.phrase.specs.declared.costs.Costs.{Costs}
 use Rattle.paths.specs.declared.passes.Strictness.{Strictness}
-use Rattle.paths.specs.Ranges.{inRange, firstReached}
-use Rattle.paths.specs.Units.{shortestUnit, longestUnit}
-use Rattle.stages.specs.Room.{most, counts}
+use Rattle.paths.specs.inner.Ranges.{inRange, firstReached}
+use Rattle.limits.specs.Common.{shortestUnit, longestUnit}
+use Rattle.limits.specs.Capacity.{mostBoundaries, unitCounts}
 use Rattle.stages.specs.Tables.{StageTables, endsIn, sinceIn}
 use Rattle.rows.specs.Units.{RowTables}
 
@@ -35,11 +35,11 @@ endIn t strictness j = getD (endsIn t strictness) j 0
 -- What may be read of the tables: origins come before their targets, their units have a duration, rows are rows of scores; and what each
 -- count is said to reach first follows from the origins.
 pub record Readable (t : StageTables) (strictness : Strictness) (scoreRows : ℕ) : Type 0 where
-  pub few : t .size ≤ most
+  pub few : t .size ≤ mostBoundaries
   pub earlier : (j : ℕ) → j < t .size → endIn t strictness j ≤ j
   pub inside : (j : ℕ) → j < t .size → getD (t .middle) j 0 ≤ endIn t strictness j
   pub fits :
       (i j : ℕ) → j < t .size → T (inRange (lowIn t j) (endIn t strictness j) i) →
       (getD (t .bounds) i 0 + shortestUnit ≤ getD (t .bounds) j 0) × (getD (t .bounds) j 0 ≤ getD (t .bounds) i 0 + longestUnit)
   pub rows : RowsBelow (t .row) (t .size) scoreRows
-  pub reached : (s : ℕ) → s < counts → getD (sinceIn t strictness) s 0 ≡ firstReached (lowIn t) (endIn t strictness) (t .size) s
+  pub reached : (s : ℕ) → s < unitCounts → getD (sinceIn t strictness) s 0 ≡ firstReached (lowIn t) (endIn t strictness) (t .size) s

@@ -5,10 +5,12 @@ ghost use mathlib.Core.Path.{_≡_};
 ghost use Prim.Native.Nat.{_+_, _*_, _≤_, _<_, _^_, suc};
 ghost use lib.Ieee.{binary64, ofBits};
 ghost use lib.ListN.{length, drop, replicate};
+ghost use Rattle.limits.specs.Capacity.{mostUnits};
 ghost use Rattle.paths.specs.Problem.{Problem};
 ghost use Rattle.closed.specs.Reported.{AllRows, LastReached, Reports, SomeRows};
 ghost use Rattle.rows.specs.Ends.{StopsOf};
 ghost use Rattle.rows.specs.Traced.{UnitsAre};
+use limits::capacity::MOST_UNITS;
 use rows::clear::clear;
 use rows::end::best_end;
 use rows::trace::Units;
@@ -30,8 +32,8 @@ pub(crate) fn no_units() -> Units
     ensures { λ r. ⌜ UnitsAre r [] ⌝ }
 {
     Units {
-        first: [0u32; 16],
-        last: [0u32; 16],
+        first: [0u32; MOST_UNITS],
+        last: [0u32; MOST_UNITS],
     }
 }
 
@@ -45,7 +47,7 @@ pub fn finish(
     k: usize,
     since: usize,
 ) -> Path
-    requires { ⌜ (k ≤ 16) × (n ≤ 2 ^ 32) × (suc k * n ≤ length (now best)) × (suc k * n ≤ length (now back)) × (n ≤ length (now stop)) × (since < n) ⌝ }
+    requires { ⌜ (k ≤ mostUnits) × (n ≤ 2 ^ 32) × (suc k * n ≤ length (now best)) × (suc k * n ≤ length (now back)) × (n ≤ length (now stop)) × (since < n) ⌝ }
     requires { ⌜ SomeRows (now stop) (now best) (now back) n k since ⌝ }
     ensures { λ r. ⌜ ((q : Problem) → StopsOf q (now (stop .entry)) n → AllRows q (now (best .entry)) (now (back .entry)) n k → LastReached q n k since → Reports q k r) ⌝ }
     ensures { λ _. ⌜ now (best .exit) ≡ replicate (suc k * n) (ofBits binary64 0) ++ drop (suc k * n) (now (best .entry)) ⌝ }

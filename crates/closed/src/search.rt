@@ -5,7 +5,8 @@ ghost use mathlib.Core.List.{[]};
 ghost use mathlib.Core.Path.{_≡_};
 ghost use Rattle.paths.specs.Passes.{passStage, passStrictness, hasNucleus};
 ghost use Rattle.paths.specs.Search.{chosen};
-ghost use Rattle.record.specs.Edition.{edition1};
+ghost use Rattle.limits.specs.Sizes.{workCells};
+ghost use Rattle.record.specs.Layout.{limitsOf};
 ghost use Rattle.record.specs.Meaning.{phraseOf};
 ghost use Rattle.rows.specs.Traced.{UnitsAre};
 ghost use Rattle.closed.specs.Answered.{Says, isFound, passWord, passSection, answerIn, passAnswer, addedAnswer, RunsOf, StageLent, BothLent};
@@ -114,7 +115,7 @@ pub fn attempt<'a>(
 ) -> Searched
     requires { ⌜ Candidate (now bytes) (task .at) (task .costs) (task .candidate) × (hasNucleus (phraseOf (now bytes)) ≡ true) ⌝ }
     requires { ⌜ StageLent (phraseOf (now bytes)) (passStage (phraseOf (now bytes)) pass) (now words) (now figures) ⌝ }
-    requires { ⌜ Unused (now best) (now back) (edition1 .«work_cells») ⌝ }
+    requires { ⌜ Unused (now best) (now back) (workCells (limitsOf (now bytes))) ⌝ }
     ensures { λ r. ⌜ Says (passAnswer (phraseOf (now (bytes .entry))) pass (columnsOf (now (bytes .entry)) (task .candidate))) r ⌝ }
     ensures { λ _. ⌜ (now (best .exit) ≡ now (best .entry)) × (now (back .exit) ≡ now (back .entry)) ⌝ }
 {
@@ -160,7 +161,7 @@ fn search_added<'a>(
 ) -> Searched
     requires { ⌜ Candidate (now bytes) (task .at) (task .costs) (task .candidate) × (hasNucleus (phraseOf (now bytes)) ≡ true) ⌝ }
     requires { ⌜ StageLent (phraseOf (now bytes)) (phraseOf (now bytes) .added) (now words) (now figures) ⌝ }
-    requires { ⌜ Unused (now best) (now back) (edition1 .«work_cells») ⌝ }
+    requires { ⌜ Unused (now best) (now back) (workCells (limitsOf (now bytes))) ⌝ }
     ensures { λ r. ⌜ Says (addedAnswer (phraseOf (now (bytes .entry))) (columnsOf (now (bytes .entry)) (task .candidate))) r ⌝ }
     ensures { λ _. ⌜ (now (best .exit) ≡ now (best .entry)) × (now (back .exit) ≡ now (back .entry)) ⌝ }
 {
@@ -187,7 +188,7 @@ pub fn search<'a>(
 ) -> Searched
     requires { ⌜ Candidate (now bytes) (task .at) (task .costs) (task .candidate) × RunsOf (phraseOf (now bytes)) runs ⌝ }
     requires { ⌜ BothLent (phraseOf (now bytes)) (now words) (now figures) (now «added_words») (now «added_figures») ⌝ }
-    requires { ⌜ Unused (now best) (now back) (edition1 .«work_cells») ⌝ }
+    requires { ⌜ Unused (now best) (now back) (workCells (limitsOf (now bytes))) ⌝ }
     ensures { λ r. ⌜ Says (chosen (phraseOf (now (bytes .entry))) (columnsOf (now (bytes .entry)) (task .candidate))) r ⌝ }
     ensures { λ _. ⌜ (now (best .exit) ≡ now (best .entry)) × (now (back .exit) ≡ now (back .entry)) ⌝ }
 {

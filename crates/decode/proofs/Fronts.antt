@@ -8,7 +8,7 @@ use lib.Seq.{take-append-seam, drop-append-seam, length-take-le}
 use Rattle.laws.proofs.Listed.{length-listed, length-table}
 use Rattle.laws.specs.Listed.{padded, listed, tableOf}
 use Rattle.clip.specs.Clip.{reported, startsOf, endsOf}
-use Rattle.clip.specs.Units.{unitsFrom, placedFrom, Alike, Clipped}
+use Rattle.clip.specs.inner.Units.{placedRange, placedFrom, Alike, Clipped}
 use Rattle.frames.specs.declared.span.Span.{Span}
 use Rattle.decoding.proofs.Units.{length-reported}
 
@@ -37,13 +37,13 @@ module _ (f : ℕ → ℕ) (k size : ℕ) {l : List ℕ} (e : l ≡ tableOf f k 
   unfolding padded
   refilled xs n = ap (λ (ys : List ℕ). xs ++ ys) (rest ∙ ap (λ (m : ℕ). replicate (size - m) 0) (sym n))
 
-length-unitsFrom : (starts ends rows : List ℕ) (i n : ℕ) → length (unitsFrom starts ends rows i n) ≡ n
-unfolding unitsFrom
-length-unitsFrom starts ends rows i zero = refl
-length-unitsFrom starts ends rows i (suc n) = ap suc (length-unitsFrom starts ends rows (i + 1) n)
+length-placed : (starts ends rows : List ℕ) (i n : ℕ) → length (placedRange starts ends rows i n) ≡ n
+unfolding placedRange
+length-placed starts ends rows i zero = refl
+length-placed starts ends rows i (suc n) = ap suc (length-placed starts ends rows (i + 1) n)
 
 pub length-clipped : (starts ends rows : List ℕ) → length (reported (placedFrom starts ends rows)) ≡ length rows
-length-clipped starts ends rows = length-reported (placedFrom starts ends rows) ∙ length-unitsFrom starts ends rows 0 (length rows)
+length-clipped starts ends rows = length-reported (placedFrom starts ends rows) ∙ length-placed starts ends rows 0 (length rows)
 
 -- clipping the fronts
 module _ (f g h : ℕ → ℕ) (k size : ℕ) {starts ends rows : List ℕ}

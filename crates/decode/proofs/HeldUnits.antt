@@ -4,9 +4,9 @@ use mathlib.Core.List.{List, [], _∷_}
 use mathlib.Core.Path.{_≡_, refl, sym, ap, ap₂, _∙_}
 use native.Mathlib.Omega.{arith}
 use lib.ListN.{length, getD, replicate, length-replicate, getD-replicate}
-use Rattle.clip.specs.Units.{unitAt, unitsFrom}
+use Rattle.limits.specs.Capacity.{mostUnits}
 use Rattle.entries.specs.Entry.{ReportedUnit, noRow}
-use Rattle.entries.specs.EntryFrom as Entries
+use Rattle.entries.specs.inner.EntryFrom as Entries
 use Rattle.decode.specs.declared.report.Reported.{Reported}
 use Rattle.decode.specs.Places.{missedAt, unitless, Holds}
 
@@ -26,17 +26,17 @@ held-units {units} {r} h =
     from-arrays (r .starts) (r .ends) (r .rows) units 0
     (λ j below. let e : 0 + j ≡ j = omega arith in ap (Entries.unitAt (r .starts) (r .ends) (r .rows)) e ∙ h .each j below)
 
-pub missed-hold : (k at : ℕ) → k ≤ 16 → Holds (replicate k (record { start = at; end = at; row = noRow })) (missedAt at)
+pub missed-hold : (k at : ℕ) → k ≤ mostUnits → Holds (replicate k (record { start = at; end = at; row = noRow })) (missedAt at)
 missed-hold k at few =
     let unit : ReportedUnit = record { start = at; end = at; row = noRow } in
     let long = length-replicate k unit in
     record {
       few = omega (arith, long);
       each = λ i h.
-          let below : i < 16 = omega (arith, long) in
-          (λ t. record { start = getD-replicate 16 i at 0 below t; end = getD-replicate 16 i at 0 below t; row = getD-replicate 16 i noRow 0 below t })
+          let below : i < mostUnits = omega (arith, long) in
+          (λ t. record { start = getD-replicate mostUnits i at 0 below t; end = getD-replicate mostUnits i at 0 below t; row = getD-replicate mostUnits i noRow 0 below t })
           ∙ sym (getD-replicate k i unit unitless (omega (arith, long)));
-      startsLong = length-replicate 16 at;
-      endsLong = length-replicate 16 at;
-      rowsLong = length-replicate 16 noRow;
+      startsLong = length-replicate mostUnits at;
+      endsLong = length-replicate mostUnits at;
+      rowsLong = length-replicate mostUnits noRow;
     }

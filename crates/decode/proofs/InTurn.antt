@@ -3,25 +3,28 @@ use Prim.Native.Nat.{ℕ, zero, suc, _+_, _*_, _<_}
 use mathlib.Core.List.{List, [], _∷_, _++_, map}
 use mathlib.Core.Option.{none}
 use mathlib.Core.Path.{_≡_, refl, sym, ap, ap₂, _∙_}
+use native.Mathlib.Nat.{zero-mul}
 use native.Mathlib.Omega.{arith}
 use native.Mathlib.Numerals.{add-one}
 use lib.ListN.{length, take, drop, length-map}
 use lib.Seq.{take-suc, take-length, drop-drop, length-take-le}
+use Rattle.laws.proofs.Numbers.{next-row}
 use Rattle.phrase.specs.Phrase.{Phrase, Candidate}
-use Rattle.record.specs.Edition.{edition1}
+use Rattle.limits.specs.Sizes.{entryWords}
+use Rattle.record.specs.Layout.{limitsOf}
 use Rattle.record.specs.Meaning.{phraseOf}
 use Rattle.record.specs.Refusals.{refusalOf}
-use Rattle.record.specs.Reading.{candidateOf}
+use Rattle.record.specs.inner.Reading.{candidateOf}
 use Rattle.entries.specs.Entry.{Entry}
 use Rattle.entries.specs.Words.{allWords}
 use Rattle.entries.specs.Ranking.{rankOnto, ranked}
-use Rattle.entries.specs.Placing.{Fit, All, Inserted}
+use Rattle.entries.specs.inner.Placing.{Fit, All, Inserted}
 use Rattle.entries.proofs.Ranks.{all-ranked, ranked-more}
 use Rattle.entries.proofs.RankedLength.{length-ranked}
 use Rattle.decoding.specs.EntryOf.{entryOf, entriesOf}
 use Rattle.decoding.proofs.Demands.{entries-fit}
 
-module _ (phrase : Phrase) where
+module _ (most : ℕ) (phrase : Phrase) where
   -- the entries of the first n candidates
   abbrev pub firstEntries : ℕ → List Entry
   firstEntries n = map (entryOf phrase) (take n (phrase .candidates))
@@ -35,18 +38,18 @@ module _ (phrase : Phrase) where
       sym (map-snoc (take n (phrase .candidates)) (candidateOf phrase n))
       ∙ ap (map (entryOf phrase)) (sym (take-suc (phrase .candidates) n _ below) ∙ ap (λ (m : ℕ). take m (phrase .candidates)) (sym (add-one n)))
 
-  all-first : (cs : List Candidate) (n : ℕ) → All (Fit (edition1 .units)) (map (entryOf phrase) cs) → All (Fit (edition1 .units)) (map (entryOf phrase) (take n cs))
+  all-first : (cs : List Candidate) (n : ℕ) → All (Fit most) (map (entryOf phrase) cs) → All (Fit most) (map (entryOf phrase) (take n cs))
   all-first cs zero fits = All.none
   all-first [] (suc n) fits = All.none
   all-first (c ∷ cs) (suc n) (All.more fit fits) = All.more fit (all-first cs n fits)
 
   -- what the output holds after n candidates, from what it held before all of them
   abbrev pub heldAfter : ℕ → List ℕ → List ℕ
-  heldAfter n out = allWords (edition1 .units) (ranked (firstEntries n)) ++ drop (n * edition1 .«entry_words») out
+  heldAfter n out = allWords most (ranked (firstEntries n)) ++ drop (n * entryWords most) out
 
   pub none-held : (out : List ℕ) → out ≡ heldAfter 0 out
   unfolding allWords rankOnto
-  none-held out = refl
+  none-held out = sym (ap (λ (n : ℕ). drop n out) (zero-mul (entryWords most)))
 
   pub every-entry : firstEntries (length (phrase .candidates)) ≡ entriesOf phrase
   every-entry = ap (map (entryOf phrase)) (take-length (phrase .candidates))
@@ -55,13 +58,15 @@ module _ (bytes : List ℕ) (accepted : refusalOf bytes ≡ none) where
   abbrev phrase : Phrase
   phrase = phraseOf bytes
 
-  pub next-held : (n : ℕ) (out : List ℕ) {before after : List ℕ} → n < length (phrase .candidates) → before ≡ heldAfter phrase n out
-      → Inserted (edition1 .units) n (entryOf phrase (candidateOf phrase n)) before after → after ≡ heldAfter phrase (n + 1) out
+  abbrev most : ℕ
+  most = limitsOf bytes .units
+
+  pub next-held : (n : ℕ) (out : List ℕ) {before after : List ℕ} → n < length (phrase .candidates) → before ≡ heldAfter most phrase n out
+      → Inserted most n (entryOf phrase (candidateOf phrase n)) before after → after ≡ heldAfter most phrase (n + 1) out
   next-held n out below held inserted =
-      let counted : length (ranked (firstEntries phrase n)) ≡ n =
-      length-ranked (firstEntries phrase n) ∙ omega (arith, length-map (take n (phrase .candidates)) (entryOf phrase), length-take-le n (phrase .candidates) (omega arith)) in
-      let e : n * 52 + 52 ≡ (n + 1) * 52 = omega arith in
-      inserted .ranked (ranked (firstEntries phrase n)) (drop (n * 52) out) (all-ranked _ (all-first phrase (phrase .candidates) n (entries-fit bytes accepted))) counted held
-      ∙ ap₂ (λ (es : List Entry) (rest : List ℕ). allWords 16 es ++ rest)
-      (sym (ranked-more [] (firstEntries phrase n) (entryOf phrase (candidateOf phrase n))) ∙ ap ranked (one-more phrase n below))
-      (drop-drop 52 (n * 52) out ∙ ap (λ (k : ℕ). drop k out) e)
+      let counted : length (ranked (firstEntries most phrase n)) ≡ n =
+      length-ranked (firstEntries most phrase n) ∙ omega (arith, length-map (take n (phrase .candidates)) (entryOf phrase), length-take-le n (phrase .candidates) (omega arith)) in
+      inserted .ranked (ranked (firstEntries most phrase n)) (drop (n * entryWords most) out) (all-ranked _ (all-first most phrase (phrase .candidates) n (entries-fit bytes accepted))) counted held
+      ∙ ap₂ (λ (es : List Entry) (rest : List ℕ). allWords most es ++ rest)
+      (sym (ranked-more [] (firstEntries most phrase n) (entryOf phrase (candidateOf phrase n))) ∙ ap ranked (one-more most phrase n below))
+      (drop-drop (entryWords most) (n * entryWords most) out ∙ ap (λ (k : ℕ). drop k out) (next-row n (entryWords most)))

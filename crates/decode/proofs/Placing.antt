@@ -13,12 +13,13 @@ use Rattle.paths.specs.declared.passes.Strictness.{Strictness}
 use Rattle.paths.specs.declared.passes.Strictness.the-variants.{Strict, Relaxed}
 use Rattle.paths.specs.Frames.{Increasing}
 use Rattle.paths.specs.Anchors.{Anchor, kept, rowOr}
-use Rattle.paths.specs.Ranges.{goesTo, originsEnd, before, lastOf, rowBefore}
+use Rattle.paths.specs.inner.Ranges.{goesTo, originsEnd, before, lastOf, rowBefore}
 use Rattle.paths.specs.StageProblem.{boundary}
 use Rattle.paths.specs.Path.{Bounds}
 use Rattle.paths.proofs.Rising.{Rising, kept-rising}
 use Rattle.paths.proofs.Ranges.{any-relaxed, held-in-range, one-in-range}
 use Rattle.frames.specs.declared.span.Span.{Span}
+use Rattle.stages.specs.Lists.{middlesAt, rowsAt, spanStartsAt, spanEndsAt}
 use Rattle.prepare.specs.Sides.{anchorSpan, spanBefore}
 use Rattle.clip.specs.Clip.{anchored, unanchored, given}
 use Rattle.entries.specs.Entry.{noRow}
@@ -109,13 +110,13 @@ module _ (phrase : Phrase) (stage : Stage) (up : Increasing (stage .anchors)) (b
 module _ (words : List ℕ) (i j : ℕ) where
   abbrev either : Bool → PlacedUnit
   either b =
-      cond b (record { start = getD words (320 + j) 0; end = getD words (384 + j) 0; row = getD words (256 + j) 0 })
+      cond b (record { start = getD words (spanStartsAt + j) 0; end = getD words (spanEndsAt + j) 0; row = getD words (rowsAt + j) 0 })
       (record { start = getD words i 0; end = getD words j 0; row = noRow })
 
-  pub place-anchored : i < getD words (128 + j) 0 → either true ≡ placeOf words i j
+  pub place-anchored : i < getD words (middlesAt + j) 0 → either true ≡ placeOf words i j
   unfolding placeOf
-  place-anchored h = ap either (sym (lt-ltb i (getD words (128 + j) 0) h))
+  place-anchored h = ap either (sym (lt-ltb i (getD words (middlesAt + j) 0) h))
 
-  pub place-bare : getD words (128 + j) 0 ≤ i → either false ≡ placeOf words i j
+  pub place-bare : getD words (middlesAt + j) 0 ≤ i → either false ≡ placeOf words i j
   unfolding placeOf
-  place-bare h = ap either (sym (le-ltb i (getD words (128 + j) 0) h))
+  place-bare h = ap either (sym (le-ltb i (getD words (middlesAt + j) 0) h))

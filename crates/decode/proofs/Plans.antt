@@ -13,7 +13,7 @@ use Rattle.phrase.specs.Phrase.{Phrase, Stage}
 use Rattle.paths.specs.Anchors.{keptIn}
 use Rattle.paths.specs.Passes.{nonEmpty, hasNucleus}
 use Rattle.record.specs.Meaning.{phraseOf}
-use Rattle.record.specs.Accepted.{Laid}
+use Rattle.record.specs.inner.Accepted.{Laid}
 use Rattle.record.specs.declared.layout.Layout.{Layout}
 use Rattle.record.specs.declared.read.Which.the-variants.{Count}
 use Rattle.record.proofs.Reading.{anchors-are}

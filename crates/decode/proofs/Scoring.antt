@@ -7,9 +7,12 @@ use native.Mathlib.Omega.{arith}
 use lib.Dec.{T}
 use lib.ListN.{length, getD, length-replicate}
 use lib.Ieee.{Float, isNan}
-use Rattle.ieee.specs.Convert.{ClampedLog, clampedLog}
+use Rattle.ieee.specs.Convert.{clampedLog}
+use Rattle.ieee.specs.inner.Conversions.{ClampedLog}
 use Rattle.ieee.proofs.Value.{finite-number}
+use Rattle.limits.specs.Capacity.{mostUnits}
 use Rattle.phrase.specs.Phrase.{Phrase, Candidate}
+use Rattle.phrase.specs.inner.Unanchored.{unanchoredUnits}
 use Rattle.paths.specs.declared.passes.Strictness.{Strictness}
 use Rattle.paths.specs.declared.passes.Pass.{Pass}
 use Rattle.paths.specs.declared.passes.Pass.the-variants.{NucleiStrict, CountStrict, CountRelaxed, NucleiRelaxed}
@@ -27,24 +30,25 @@ use Rattle.closed.specs.declared.search.Searched.{Searched}
 use Rattle.closed.specs.Answered.{Says, passWord}
 use Rattle.closed.specs.Asked.{columnsOf}
 use Rattle.closed.proofs.Bridge.{readable}
-use Rattle.record.specs.Edition.{edition1}
+use Rattle.record.specs.Layout.{limitsOf}
 use Rattle.record.specs.Meaning.{phraseOf}
-use Rattle.record.specs.Accepted.{Laid, CandidateFit}
-use Rattle.record.specs.Reading.{stageOf, candidateOf}
+use Rattle.record.specs.inner.Accepted.{Laid, CandidateFit}
+use Rattle.record.specs.inner.Reading.{stageOf, candidateOf}
 use Rattle.record.specs.declared.layout.Layout.{Layout}
 use Rattle.record.specs.declared.read.Which.{Which}
 use Rattle.record.specs.declared.read.Which.the-variants.{Nuclei, Count}
 use Rattle.record.proofs.Accepted.{fit}
+use Rattle.record.proofs.Reading.{few-units as candidate-units}
 use Rattle.prepare.specs.Sides.{Prepared}
 use Rattle.prepare.proofs.Parts.{few-boundaries, anchors-fit, boundaries-fit, rows-fit}
 use Rattle.entries.specs.Entry.{noRow}
-use Rattle.entries.specs.EntryFrom.{unitsFrom}
+use Rattle.entries.specs.inner.EntryFrom.{unitsFrom}
 use Rattle.entries.specs.declared.words.EntryHead.{EntryHead}
 use Rattle.decode.specs.declared.plan.Plan.{Plan}
 use Rattle.decode.specs.declared.report.Reported.{Reported}
 use Rattle.decode.specs.declared.entry.Scored.{Scored}
 use Rattle.decoding.specs.Report.{lowEdge, highEdge, reportedIn, reportedUnits}
-use Rattle.decoding.specs.EntryOf.{missedBy, missedTotal, missedUnits, totalOf, unitsFor, entryFor, entryBy, entryOf}
+use Rattle.decoding.specs.EntryOf.{missedTotal, missedUnits, totalOf, unitsFor, entryFor, entryBy, entryOf}
 use Rattle.decode.specs.Places.{Placeable, ReportedAll, missedAt, Holds}
 use Rattle.decode.specs.Plans.{PlanOf, LentWords}
 use Rattle.decode.specs.Scored.{MissedEntry, ScoredAs}
@@ -66,7 +70,7 @@ module _ {bytes : List ℕ} {at : Layout} (h : Laid bytes at) where
   rows-below which = omega (arith, rows-fit h which)
 
   found-in : (which : Which) (strictness : Strictness) (columns : List ℕ) {words : List ℕ} {figures : List Float} {units : Units} {path : Path}
-      → Prepared phrase (stageOf which phrase) (lowEdge (phrase .speech)) (highEdge (phrase .speech)) words figures → UnitsAre units (unitsOf path) → length (unitsOf path) ≤ 16
+      → Prepared phrase (stageOf which phrase) (lowEdge (phrase .speech)) (highEdge (phrase .speech)) words figures → UnitsAre units (unitsOf path) → length (unitsOf path) ≤ mostUnits
       → Admitted (problemOf phrase (stageOf which phrase) strictness columns) path
       → Reporting.Found phrase (stageOf which phrase) strictness words units (unitsOf path)
   found-in which strictness columns {figures = figures} prepared are few admitted =
@@ -94,14 +98,14 @@ module _ {bytes : List ℕ} {at : Layout} (h : Laid bytes at) where
     abbrev columns : List ℕ
     columns = columnsOf bytes candidate
 
-    fits : CandidateFit (edition1 .units) (at .scores .count) chosenOne
+    fits : CandidateFit (limitsOf bytes .units) (at .scores .count) chosenOne
     fits = fit h .candidates candidate _ below
 
-    pub few-units : length columns ≤ 16
-    few-units = fits .fewUnits
+    pub few-units : length columns ≤ mostUnits
+    few-units = candidate-units h below
 
     demanded : D.Demanded phrase columns (chosen phrase columns)
-    demanded = answered bytes (h .accepted) (subst (λ (x : Layout). CandidateFit (edition1 .units) (x .scores .count) chosenOne) (h .layout) fits)
+    demanded = answered bytes (h .accepted) (subst (λ (x : Layout). CandidateFit (limitsOf bytes .units) (x .scores .count) chosenOne) (h .layout) fits)
 
     module _ (searched : Searched) (says : Says (chosen phrase columns) searched) where
       module _ {pass : Pass} {total : Float} (e : searched .answer ≡ Found pass total) where
@@ -120,13 +124,13 @@ module _ {bytes : List ℕ} {at : Layout} (h : Laid bytes at) where
         units-few : length (unitsOf (it .path)) ≡ length columns
         units-few = units-count (it .path) ∙ shown .best .counted
 
-        few : length (unitsOf (it .path)) ≤ 16
+        few : length (unitsOf (it .path)) ≤ mostUnits
         few = omega (arith, units-few, few-units)
 
         path-found : Reporting.Found phrase (passStage phrase pass) (passStrictness pass) (ofPass words addedWords pass) (searched .units) (unitsOf (it .path))
         path-found = go pass (it .path) (it .units) few (shown .best .admitted) (shown .first)
           where
-            go : (pass : Pass) (path : Path) → UnitsAre (searched .units) (unitsOf path) → length (unitsOf path) ≤ 16
+            go : (pass : Pass) (path : Path) → UnitsAre (searched .units) (unitsOf path) → length (unitsOf path) ≤ mostUnits
                 → Admitted (passProblem phrase pass columns) path → D.FirstOf phrase columns pass (inOrder phrase)
                 → Reporting.Found phrase (passStage phrase pass) (passStrictness pass) (ofPass words addedWords pass) (searched .units) (unitsOf path)
             go NucleiStrict path are few admitted first = found-in Nuclei _ columns (worded .lent .nuclei) are few admitted
@@ -151,14 +155,14 @@ module _ {bytes : List ℕ} {at : Layout} (h : Laid bytes at) where
               (counted ∙ sym units-few ∙ sym (length-reportedIn phrase (passStage phrase pass) (unitsOf (it .path))))
               ∙ held-units holds
 
-          pub scored-found : ScoredAs (entryOf phrase chosenOne) (record { head = record { id = id; llr = llr; pass = number; units = k }; units = units })
+          pub scored-found : ScoredAs (limitsOf bytes .units) (entryOf phrase chosenOne) (record { head = record { id = id; llr = llr; pass = number; units = k }; units = units })
           unfolding entryBy entryFor
           scored-found =
-              coe 1 0 (i. ScoredAs (entryFor phrase chosenOne (it .is i)) (record { head = record { id = id; llr = llr; pass = number; units = k }; units = units }))
+              coe 1 0 (i. ScoredAs (limitsOf bytes .units) (entryFor phrase chosenOne (it .is i)) (record { head = record { id = id; llr = llr; pass = number; units = k }; units = units }))
               (record {
                 whole = λ i. record { id = named i; pass = (numbered ∙ ap passWord e) i; total = total; llr = clamped .value i; units = units-are i };
                 number = finite-number _ (clamped .within .real .isFinite);
-                few = omega (arith, few-units);
+                few = omega (arith, fits .fewUnits);
                 starts = holds .startsLong;
                 ends = holds .endsLong;
                 rows = holds .rowsLong;
@@ -168,14 +172,14 @@ module _ {bytes : List ℕ} {at : Layout} (h : Laid bytes at) where
       scored-missed : (a : Answer) → chosen phrase columns ≡ a → totalOf phrase (length columns) a ≡ missedTotal phrase (length columns)
           → unitsFor phrase (length columns) a ≡ missedUnits phrase (length columns)
           → {k id number : ℕ} {r : Scored} → k ≡ length columns → id ≡ chosenOne .id → number ≡ answerNumber a
-          → MissedEntry id k number (plan .costs .unvoiced) (plan .«lo_edge») r → ScoredAs (entryOf phrase chosenOne) r
+          → MissedEntry id k number (plan .costs) (plan .«lo_edge») r → ScoredAs (limitsOf bytes .units) (entryOf phrase chosenOne) r
       unfolding entryBy entryFor
       scored-missed a is totals spans {k} {id} {number} {r} counted named numbered missed =
-          coe 1 0 (i. ScoredAs (entryFor phrase chosenOne (is i)) (record { head = head i; units = (missed .units ∙ ap missedAt (planned .low)) i }))
+          coe 1 0 (i. ScoredAs (limitsOf bytes .units) (entryFor phrase chosenOne (is i)) (record { head = head i; units = (missed .units ∙ ap missedAt (planned .low)) i }))
           (record {
             whole = λ i. record { id = chosenOne .id; pass = answerNumber a; total = totalOf phrase n a; llr = clampedLog (totalOf phrase n a); units = units-are i };
             number = subst (λ (h : EntryHead). T (not (isNan (h .llr)))) head (missed .number);
-            few = few-units;
+            few = fits .fewUnits;
             starts = held .startsLong;
             ends = held .endsLong;
             rows = held .rowsLong;
@@ -193,18 +197,18 @@ module _ {bytes : List ℕ} {at : Layout} (h : Laid bytes at) where
           units-are : unitsFrom (at-start .starts) (at-start .ends) (at-start .rows) n 0 ≡ unitsFor phrase n a
           units-are = ap (λ (m : ℕ). unitsFrom (at-start .starts) (at-start .ends) (at-start .rows) m 0) (sym (length-replicate n _)) ∙ held-units held ∙ sym spans
 
-          llr : clampedLog (missedBy k (plan .costs .unvoiced)) ≡ clampedLog (totalOf phrase n a)
-          llr = (λ i. clampedLog (missedBy (counted i) (planned .costs i .unvoiced))) ∙ ap clampedLog (sym totals)
+          llr : clampedLog (unanchoredUnits (plan .costs) k) ≡ clampedLog (totalOf phrase n a)
+          llr = (λ i. clampedLog (unanchoredUnits (planned .costs i) (counted i))) ∙ ap clampedLog (sym totals)
 
           head : r .head ≡ record { id = chosenOne .id; llr = clampedLog (totalOf phrase n a); pass = answerNumber a; units = n }
           head = missed .head ∙ (λ i. record { id = named i; llr = llr i; pass = numbered i; units = counted i })
 
       pub scored-none : searched .answer ≡ None → {k id number : ℕ} {r : Scored} → k ≡ length columns → id ≡ chosenOne .id → number ≡ passWord (searched .answer)
-          → MissedEntry id k number (plan .costs .unvoiced) (plan .«lo_edge») r → ScoredAs (entryOf phrase chosenOne) r
+          → MissedEntry id k number (plan .costs) (plan .«lo_edge») r → ScoredAs (limitsOf bytes .units) (entryOf phrase chosenOne) r
       scored-none e counted named numbered missed =
           scored-missed D.none (says-none (chosen phrase columns) searched says e) refl refl counted named (numbered ∙ ap passWord e) missed
 
       pub scored-unvoiced : searched .answer ≡ Unvoiced → {k id number : ℕ} {r : Scored} → k ≡ length columns → id ≡ chosenOne .id → number ≡ passWord (searched .answer)
-          → MissedEntry id k number (plan .costs .unvoiced) (plan .«lo_edge») r → ScoredAs (entryOf phrase chosenOne) r
+          → MissedEntry id k number (plan .costs) (plan .«lo_edge») r → ScoredAs (limitsOf bytes .units) (entryOf phrase chosenOne) r
       scored-unvoiced e counted named numbered missed =
           scored-missed D.unvoiced (says-unvoiced (chosen phrase columns) searched says e) refl refl counted named (numbered ∙ ap passWord e) missed

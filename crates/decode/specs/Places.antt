@@ -6,10 +6,12 @@ use mathlib.Core.Path.{_≡_}
 use lib.Dec.{ltb}
 use lib.ListN.{length, getD, replicate}
 use Rattle.laws.specs.Listed.{padded, listed, tableOf}
+use Rattle.limits.specs.Capacity.{mostUnits, mostBoundaries}
+use Rattle.stages.specs.Lists.{middlesAt, rowsAt, spanStartsAt, spanEndsAt, wordsLong}
 use Rattle.entries.specs.Entry.{ReportedUnit, noRow}
-use Rattle.entries.specs.EntryFrom.{unitAt}
+use Rattle.entries.specs.inner.EntryFrom.{unitAt}
 use Rattle.clip.specs.Clip.{Placed, reported, startsOf, endsOf}
-use Rattle.clip.specs.Units.{placedFrom}
+use Rattle.clip.specs.inner.Units.{placedFrom}
 use Rattle.rows.specs.declared.trace.Units.{Units}
 use Rattle.decode.specs.declared.report.PlacedUnit.{PlacedUnit}
 use Rattle.decode.specs.declared.report.Reported.{Reported}
@@ -18,8 +20,8 @@ use Rattle.decode.specs.declared.report.Reported.{Reported}
 -- j, with its row and the edges of its span; another has its path frames.
 unfoldable pub placeOf : List ℕ → ℕ → ℕ → PlacedUnit
 placeOf words i j =
-    cond (ltb i (getD words (128 + j) 0))
-    (record { start = getD words (320 + j) 0; end = getD words (384 + j) 0; row = getD words (256 + j) 0 })
+    cond (ltb i (getD words (middlesAt + j) 0))
+    (record { start = getD words (spanStartsAt + j) 0; end = getD words (spanEndsAt + j) 0; row = getD words (rowsAt + j) 0 })
     (record { start = getD words i 0; end = getD words j 0; row = noRow })
 
 -- unit i of those found in a stage
@@ -28,17 +30,17 @@ placeAt words units i = placeOf words (getD (units .first) i 0) (getD (units .la
 
 -- What is looked up is there: the first k units, and their boundaries in the words.
 pub record Placeable (words : List ℕ) (units : Units) (k : ℕ) : Type 0 where
-  pub few : k ≤ 16
-  pub firsts : length (units .first) ≡ 16
-  pub lasts : length (units .last) ≡ 16
-  pub worded : length words ≡ 482
-  pub begins : (i : ℕ) → i < k → getD (units .first) i 0 < 64
-  pub ends : (i : ℕ) → i < k → getD (units .last) i 0 < 64
+  pub few : k ≤ mostUnits
+  pub firsts : length (units .first) ≡ mostUnits
+  pub lasts : length (units .last) ≡ mostUnits
+  pub worded : length words ≡ wordsLong
+  pub begins : (i : ℕ) → i < k → getD (units .first) i 0 < mostBoundaries
+  pub ends : (i : ℕ) → i < k → getD (units .last) i 0 < mostBoundaries
 
 pub record PlacedAll (words : List ℕ) (units : Units) (k : ℕ) (r : Reported) : Type 0 where
-  pub starts : r .starts ≡ tableOf (λ i. placeAt words units i .start) k 16 0
-  pub ends : r .ends ≡ tableOf (λ i. placeAt words units i .end) k 16 0
-  pub rows : r .rows ≡ tableOf (λ i. placeAt words units i .row) k 16 0
+  pub starts : r .starts ≡ tableOf (λ i. placeAt words units i .start) k mostUnits 0
+  pub ends : r .ends ≡ tableOf (λ i. placeAt words units i .end) k mostUnits 0
+  pub rows : r .rows ≡ tableOf (λ i. placeAt words units i .row) k mostUnits 0
 
 -- the first k units, as they stand before clipping
 abbrev pub placedList : List ℕ → Units → ℕ → List Placed
@@ -46,13 +48,13 @@ placedList words units k =
     placedFrom (listed (λ i. placeAt words units i .start) k) (listed (λ i. placeAt words units i .end) k) (listed (λ i. placeAt words units i .row) k)
 
 pub record ReportedAll (words : List ℕ) (units : Units) (k : ℕ) (r : Reported) : Type 0 where
-  pub starts : r .starts ≡ padded (startsOf (reported (placedList words units k))) 16 0
-  pub ends : r .ends ≡ padded (endsOf (reported (placedList words units k))) 16 0
-  pub rows : r .rows ≡ tableOf (λ i. placeAt words units i .row) k 16 0
+  pub starts : r .starts ≡ padded (startsOf (reported (placedList words units k))) mostUnits 0
+  pub ends : r .ends ≡ padded (endsOf (reported (placedList words units k))) mostUnits 0
+  pub rows : r .rows ≡ tableOf (λ i. placeAt words units i .row) k mostUnits 0
 
 -- "k empty spans": one for each place of an entry
 abbrev pub missedAt : ℕ → Reported
-missedAt at = record { starts = replicate 16 at; ends = replicate 16 at; rows = replicate 16 noRow }
+missedAt at = record { starts = replicate mostUnits at; ends = replicate mostUnits at; rows = replicate mostUnits noRow }
 
 -- stands for a unit past the last
 abbrev pub unitless : ReportedUnit
@@ -60,8 +62,8 @@ unitless = record { start = 0; end = 0; row = 0 }
 
 -- The first units of the arrays are these.
 pub record Holds (units : List ReportedUnit) (r : Reported) : Type 0 where
-  pub few : length units ≤ 16
+  pub few : length units ≤ mostUnits
   pub each : (i : ℕ) → i < length units → unitAt (r .starts) (r .ends) (r .rows) i ≡ getD units i unitless
-  pub startsLong : length (r .starts) ≡ 16
-  pub endsLong : length (r .ends) ≡ 16
-  pub rowsLong : length (r .rows) ≡ 16
+  pub startsLong : length (r .starts) ≡ mostUnits
+  pub endsLong : length (r .ends) ≡ mostUnits
+  pub rowsLong : length (r .rows) ≡ mostUnits

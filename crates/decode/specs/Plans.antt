@@ -7,8 +7,9 @@ use lib.Ieee.{Float}
 use Rattle.phrase.specs.Phrase.{Phrase}
 use Rattle.paths.specs.Passes.{nonEmpty}
 use Rattle.record.specs.declared.layout.Layout.{Layout}
-use Rattle.record.specs.Edition.{edition1}
-use Rattle.record.specs.Accepted.{Laid}
+use Rattle.limits.specs.Sizes.{workCells}
+use Rattle.record.specs.Layout.{limitsOf}
+use Rattle.record.specs.inner.Accepted.{Laid}
 use Rattle.record.specs.Meaning.{phraseOf}
 use Rattle.closed.specs.Answered.{RunsOf}
 use Rattle.closed.specs.Asked.{Unused}
@@ -43,4 +44,4 @@ pub record Readied (bytes : List ℕ) (at : Layout) (plan : Plan) (words : List 
   pub laid : Laid bytes at
   pub planned : PlanOf (phraseOf bytes) plan
   pub lent : Lends (phraseOf bytes) words figures addedWords addedFigures
-  pub unused : Unused best back (edition1 .«work_cells»)
+  pub unused : Unused best back (workCells (limitsOf bytes))

@@ -1,6 +1,5 @@
 // The entry of one candidate, after `Decoder::score` of closed.rs.
 
-use crate::missed::missed_total;
 use crate::missed::missed_units;
 use crate::plan::Plan;
 use crate::report::Reported;
@@ -12,7 +11,9 @@ use closed::search::search;
 use entries::ranking::insert_entry;
 use entries::words::EntryHead;
 use ieee::convert::clamp_log;
+use limits::edition::limits_of;
 use paths::passes::Pass;
+use phrase::costs::Costs;
 use reading::read;
 use record::layout::Layout;
 ghost use mathlib.Core.List.{_++_};
@@ -22,15 +23,18 @@ ghost use lib.ListN.{length, drop};
 ghost use Rattle.closed.specs.Answered.{Says};
 ghost use Rattle.closed.specs.Asked.{columnsOf};
 ghost use Rattle.entries.specs.Entry.{Entry};
-ghost use Rattle.entries.specs.Placing.{Inserted};
+ghost use Rattle.entries.specs.inner.Placing.{Inserted};
 ghost use Rattle.entries.specs.Ranking.{ranked};
 ghost use Rattle.entries.specs.Words.{allWords};
+ghost use Rattle.limits.specs.Capacity.{mostUnits};
 ghost use Rattle.paths.specs.Passes.{ofPass};
 ghost use Rattle.paths.specs.Search.{chosen};
-ghost use Rattle.record.specs.Edition.{edition1};
+ghost use Rattle.limits.specs.Capacity.{mostUnits};
+ghost use Rattle.limits.specs.Sizes.{entryWords};
+ghost use Rattle.record.specs.Layout.{limitsOf};
 ghost use Rattle.record.specs.Meaning.{phraseOf};
-ghost use Rattle.record.specs.Accepted.{Laid};
-ghost use Rattle.record.specs.Reading.{candidateOf};
+ghost use Rattle.record.specs.inner.Accepted.{Laid};
+ghost use Rattle.record.specs.inner.Reading.{candidateOf};
 ghost use Rattle.decoding.specs.EntryOf.{entryOf, entriesOf};
 ghost use Rattle.decode.specs.Plans.{PlanOf, LentWords, Readied};
 ghost use Rattle.decode.specs.Scored.{MissedEntry, ScoredAs};
@@ -54,11 +58,11 @@ fn words_for<'a>(words: &'a [u32], added_words: &'a [u32], pass: Pass) -> &'a [u
 }
 
 // "No path: f32 k × unvoiced, widened, clamped", and empty spans where speech starts.
-fn missed_entry(id: u32, k: usize, pass: u32, unvoiced: f32, at: u32) -> Scored
-    requires { ⌜ k ≤ 16 ⌝ }
-    ensures { λ r. ⌜ MissedEntry id k pass unvoiced at r ⌝ }
+fn missed_entry(id: u32, k: usize, pass: u32, costs: Costs, at: u32) -> Scored
+    requires { ⌜ k ≤ mostUnits ⌝ }
+    ensures { λ r. ⌜ MissedEntry id k pass costs at r ⌝ }
 {
-    let llr = clamp_log(missed_total(k, unvoiced));
+    let llr = clamp_log(costs.unanchored_units(k));
     let head = EntryHead {
         id,
         llr,
@@ -83,7 +87,7 @@ fn score_candidate<'a>(
     requires { ⌜ PlanOf (phraseOf (now bytes)) plan ⌝ }
     requires { ⌜ Says (chosen (phraseOf (now bytes)) (columnsOf (now bytes) candidate)) searched ⌝ }
     requires { ⌜ LentWords (phraseOf (now bytes)) (now words) (now «added_words») ⌝ }
-    ensures { λ r. ⌜ ScoredAs (entryOf (phraseOf (now (bytes .entry))) (candidateOf (phraseOf (now (bytes .entry))) candidate)) r ⌝ }
+    ensures { λ r. ⌜ ScoredAs (limitsOf (now (bytes .entry)) .units) (entryOf (phraseOf (now (bytes .entry))) (candidateOf (phraseOf (now (bytes .entry))) candidate)) r ⌝ }
 {
     let id = read::id(bytes, at, candidate);
     let k = read::units(bytes, at, candidate);
@@ -102,21 +106,21 @@ fn score_candidate<'a>(
             };
             Scored { head, units }
         }
-        Answer::None => missed_entry(id, k, pass, plan.costs.unvoiced, plan.lo_edge),
-        Answer::Unvoiced => missed_entry(id, k, pass, plan.costs.unvoiced, plan.lo_edge),
+        Answer::None => missed_entry(id, k, pass, plan.costs, plan.lo_edge),
+        Answer::Unvoiced => missed_entry(id, k, pass, plan.costs, plan.lo_edge),
     }
 }
 
-// An entry goes to its rank among the `number` that are there.
-fn insert_scored(out: &mut [u32], number: usize, entry: Scored)
-    requires { ⌜ ((number + 1) * edition1 .«entry_words» ≤ length (now out)) × ((e : Entry) × ScoredAs e entry) ⌝ }
-    ensures { λ _. ⌜ ((e : Entry) → ScoredAs e entry → Inserted (edition1 .units) number e (now (out .entry)) (now (out .exit))) ⌝ }
+// An entry goes to its rank among the `number` that are there, each with room for `most` units.
+fn insert_scored(out: &mut [u32], number: usize, most: usize, entry: Scored)
+    requires { ⌜ ((number + 1) * entryWords most ≤ length (now out)) × (most ≤ mostUnits) × ((e : Entry) × ScoredAs most e entry) ⌝ }
+    ensures { λ _. ⌜ ((e : Entry) → ScoredAs most e entry → Inserted most number e (now (out .entry)) (now (out .exit))) ⌝ }
 {
     let units = entry.units;
     let starts = units.starts;
     let ends = units.ends;
     let rows = units.rows;
-    insert_entry(out, number, entry.head, &starts, &ends, &rows);
+    insert_entry(out, number, most, entry.head, &starts, &ends, &rows);
 }
 
 // One more candidate: its entry goes to its rank among those before it. The work areas end as they came.
@@ -134,8 +138,8 @@ fn put_candidate<'a>(
     out: &mut [u32],
 )
     requires { ⌜ Readied (now bytes) at plan (now words) (now figures) (now «added_words») (now «added_figures») (now best) (now back) ⌝ }
-    requires { ⌜ (number < length (phraseOf (now bytes) .candidates)) × ((number + 1) * edition1 .«entry_words» ≤ length (now out)) ⌝ }
-    ensures { λ _. ⌜ Inserted (edition1 .units) number (entryOf (phraseOf (now (bytes .entry))) (candidateOf (phraseOf (now (bytes .entry))) number)) (now (out .entry)) (now (out .exit)) ⌝ }
+    requires { ⌜ (number < length (phraseOf (now bytes) .candidates)) × ((number + 1) * entryWords (limitsOf (now bytes) .units) ≤ length (now out)) ⌝ }
+    ensures { λ _. ⌜ Inserted (limitsOf (now (bytes .entry)) .units) number (entryOf (phraseOf (now (bytes .entry))) (candidateOf (phraseOf (now (bytes .entry))) number)) (now (out .entry)) (now (out .exit)) ⌝ }
     ensures { λ _. ⌜ (now (best .exit) ≡ now (best .entry)) × (now (back .exit) ≡ now (back .entry)) ⌝ }
 {
     let costs = plan.costs;
@@ -156,7 +160,7 @@ fn put_candidate<'a>(
         plan.runs,
     );
     let entry = score_candidate(bytes, at, plan, number, searched, words, added_words);
-    insert_scored(out, number, entry);
+    insert_scored(out, number, limits_of(at.edition).units, entry);
 }
 
 // Every candidate of the record, in its order.
@@ -173,8 +177,8 @@ pub fn put_candidates<'a>(
     out: &mut [u32],
 )
     requires { ⌜ Readied (now bytes) at plan (now words) (now figures) (now «added_words») (now «added_figures») (now best) (now back) ⌝ }
-    requires { ⌜ length (phraseOf (now bytes) .candidates) * edition1 .«entry_words» ≤ length (now out) ⌝ }
-    ensures { λ _. ⌜ now (out .exit) ≡ allWords (edition1 .units) (ranked (entriesOf (phraseOf (now (bytes .entry))))) ++ drop (length (phraseOf (now (bytes .entry)) .candidates) * edition1 .«entry_words») (now (out .entry)) ⌝ }
+    requires { ⌜ length (phraseOf (now bytes) .candidates) * entryWords (limitsOf (now bytes) .units) ≤ length (now out) ⌝ }
+    ensures { λ _. ⌜ now (out .exit) ≡ allWords (limitsOf (now (bytes .entry)) .units) (ranked (entriesOf (phraseOf (now (bytes .entry))))) ++ drop (length (phraseOf (now (bytes .entry)) .candidates) * entryWords (limitsOf (now (bytes .entry)) .units)) (now (out .entry)) ⌝ }
     ensures { λ _. ⌜ (now (best .exit) ≡ now (best .entry)) × (now (back .exit) ≡ now (back .entry)) ⌝ }
 {
     let count = at.candidates.count;

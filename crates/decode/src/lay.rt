@@ -6,7 +6,8 @@ use record::read::Which;
 ghost use mathlib.Core.Path.{_≡_};
 ghost use lib.ListN.{length};
 ghost use Rattle.record.specs.Meaning.{phraseOf};
-ghost use Rattle.record.specs.Accepted.{Laid};
+ghost use Rattle.record.specs.inner.Accepted.{Laid};
+ghost use Rattle.stages.specs.Lists.{figuresLong, wordsLong};
 ghost use Rattle.decode.specs.Plans.{AddedLaid};
 
 // "The added stage [..] exists exactly when A > 0"; else its lists stay as they came.
@@ -19,7 +20,7 @@ pub fn lay_added(
     figures: &mut [f64],
 )
     requires { ⌜ Laid (now bytes) at ⌝ }
-    requires { ⌜ (length (now words) ≡ 482) × (length (now figures) ≡ 267) ⌝ }
+    requires { ⌜ (length (now words) ≡ wordsLong) × (length (now figures) ≡ figuresLong) ⌝ }
     ensures { λ _. ⌜ AddedLaid (phraseOf (now (bytes .entry))) «lo_edge» «hi_edge» (now (words .entry)) (now (figures .entry)) (now (words .exit)) (now (figures .exit)) ⌝ }
 {
     if at.anchors.count != 0 {

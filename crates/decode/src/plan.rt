@@ -1,6 +1,7 @@
 // What is looked up once for an accepted record, for every candidate.
 
 use closed::search::Runs;
+use limits::capacity::MOST_ANCHORS;
 use phrase::costs::Costs;
 use reading::read;
 use record::layout::Layout;
@@ -11,8 +12,8 @@ ghost use mathlib.Core.Path.{_≡_};
 ghost use Rattle.closed.specs.Answered.{RunsOf};
 ghost use Rattle.paths.specs.Passes.{speaks};
 ghost use Rattle.record.specs.Meaning.{phraseOf};
-ghost use Rattle.record.specs.Accepted.{Laid};
-ghost use Rattle.record.specs.Reading.{edgesOf};
+ghost use Rattle.record.specs.inner.Accepted.{Laid};
+ghost use Rattle.record.specs.inner.Reading.{edgesOf};
 ghost use Rattle.decoding.specs.Report.{lowEdge, highEdge};
 ghost use Rattle.decode.specs.Plans.{PlanOf};
 
@@ -55,7 +56,7 @@ fn runs_of(bytes: &[u8], at: Layout, edges: Edges) -> Runs
     requires { ⌜ edgesOf edges ≡ phraseOf (now bytes) .speech ⌝ }
     ensures { λ r. ⌜ RunsOf (phraseOf (now (bytes .entry))) r ⌝ }
 {
-    let mut nuclei = [0u32; 64];
+    let mut nuclei = [0u32; MOST_ANCHORS];
     let count = read::anchors(bytes, at, Which::Nuclei, &mut nuclei);
     let voiced = has_nucleus(read::mask(bytes, at), &nuclei[..count]);
     Runs {

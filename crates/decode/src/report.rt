@@ -2,6 +2,7 @@
 
 use clip::clip::NO_ROW;
 use clip::clip::clip_unanchored;
+use limits::capacity::MOST_UNITS;
 use rows::trace::Units;
 use stages::lists::MIDDLE;
 use stages::lists::ROW;
@@ -10,13 +11,15 @@ use stages::lists::SPAN_START;
 ghost use mathlib.Core.Path.{_≡_};
 ghost use Prim.Native.Nat.{_<_};
 ghost use lib.ListN.{length};
+ghost use Rattle.limits.specs.Capacity.{mostBoundaries};
+ghost use Rattle.stages.specs.Lists.{wordsLong};
 ghost use Rattle.decode.specs.Places.{placeOf, Placeable, PlacedAll, ReportedAll};
 
 // The units of an entry in path order. Its unit count says how many are reported; nobody reads what stands behind them.
 pub struct Reported {
-    pub starts: [u32; 16],
-    pub ends: [u32; 16],
-    pub rows: [u32; 16],
+    pub starts: [u32; MOST_UNITS],
+    pub ends: [u32; MOST_UNITS],
+    pub rows: [u32; MOST_UNITS],
 }
 
 pub struct PlacedUnit {
@@ -28,7 +31,7 @@ pub struct PlacedUnit {
 // The unit from boundary i to boundary j of the stage that the words are of, before clipping. One from below the middle of j's origins
 // holds the last anchor before j.
 fn place_unit(words: &[u32], i: usize, j: usize) -> PlacedUnit
-    requires { ⌜ (length (now words) ≡ 482) × (i < 64) × (j < 64) ⌝ }
+    requires { ⌜ (length (now words) ≡ wordsLong) × (i < mostBoundaries) × (j < mostBoundaries) ⌝ }
     ensures { λ r. ⌜ r ≡ placeOf (now (words .entry)) i j ⌝ }
 {
     if i < words[MIDDLE + j] as usize {
@@ -53,9 +56,9 @@ fn placed_units(units: Units, k: usize, words: &[u32]) -> Reported
 {
     let firsts = units.first;
     let lasts = units.last;
-    let mut starts = [0u32; 16];
-    let mut ends = [0u32; 16];
-    let mut rows = [0u32; 16];
+    let mut starts = [0u32; MOST_UNITS];
+    let mut ends = [0u32; MOST_UNITS];
+    let mut rows = [0u32; MOST_UNITS];
     let mut s = 0;
     while s < k {
         let i = firsts[s] as usize;

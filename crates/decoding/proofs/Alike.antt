@@ -13,7 +13,7 @@ use Rattle.paths.specs.Path.{Path, Bounds, unitsOf}
 use Rattle.paths.specs.Anchors.{Anchor}
 use Rattle.paths.specs.Demand.{Answer, found, none, unvoiced}
 use Rattle.paths.specs.Search.{chosen}
-use Rattle.paths.specs.Alike.{SameLists, ReadsAlike, RowsBelow}
+use Rattle.paths.specs.theory.Alike.{SameLists, ReadsAlike, RowsBelow}
 use Rattle.paths.proofs.Alike.{bare, bareStage, same-bare, same-bareStage, same-answer, demanded-too}
 use Rattle.clip.specs.Clip.{Placed, reported}
 use Rattle.entries.specs.Entry.{Entry}

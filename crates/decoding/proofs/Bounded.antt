@@ -1,25 +1,36 @@
--- An accepted record's phrase keeps to document 01's bounds, whatever scores and costs it lends.
-use Prim.Native.Nat.{ℕ, zero, suc, _+_, _≤_, _<_}
+-- An accepted record's phrase keeps to the bounds of its edition, whatever scores and costs it lends; these leave room.
+use Prim.Native.Nat.{ℕ, zero, suc, _+_, _*_, _≤_, _<_}
 use mathlib.Core.List.{List, [], _∷_}
 use mathlib.Core.Option.{none}
 use mathlib.Core.Path.{_≡_, refl}
+use native.Mathlib.Nat.{mul-le-mul}
 use native.Mathlib.Omega.{arith}
 use lib.Dec.{T}
 use lib.ListN.{length, getD}
 use lib.Ieee.{binary64}
-use Rattle.ieee.specs.Value.{Within}
+use Rattle.limits.specs.Capacity.{mostBoundaries, mostAnchors}
+use Rattle.limits.specs.inner.Moderate.{Moderate, mostCount}
+use Rattle.limits.specs.declared.edition.Limits.{Limits}
+use Rattle.ieee.specs.inner.Value.{Within}
 use Rattle.ieee.proofs.Magnitude.{within-widens}
 use Rattle.phrase.specs.Phrase.{Stage, Candidate}
-use Rattle.paths.specs.Units.{shortestUnit, longestUnit}
+use Rattle.limits.specs.Common.{shortestUnit, longestUnit}
 use Rattle.paths.specs.Passes.{nonEmpty}
-use Rattle.paths.specs.Bounded.{Bounded, PhraseBounded, documentRanges}
-use Rattle.record.specs.Edition.{edition1}
-use Rattle.record.specs.Layout.{layoutOf}
+use Rattle.paths.specs.theory.Bounded.{Bounded, PhraseBounded, stepBound, Room}
+use Rattle.record.specs.Layout.{layoutOf, limitsOf}
 use Rattle.record.specs.Refusals.{refusalOf}
 use Rattle.record.specs.Meaning.{phraseOf}
-use Rattle.record.specs.Accepted.{CandidateFit, Fit}
+use Rattle.record.specs.inner.Accepted.{CandidateFit, Fit}
+use Rattle.decoding.specs.theory.Ranges.{rangesOf}
 use Rattle.record.proofs.Accepted.{fit}
 use Rattle.record.proofs.Reading.{nuclei-first, added-next}
+
+-- however large the numbers of a moderate edition are, its sums are finite
+pub room : {l : Limits} → Moderate l → Room (rangesOf l)
+room {l} m =
+    let step : stepBound (rangesOf l) ≤ 1000 * mostCount + 1000 * mostAnchors + 2000000 = omega (arith, m .frames, m .nuclei) in
+    let steps = mul-le-mul {n₂ = mostBoundaries} {m₂ = 1000 * mostCount + 1000 * mostAnchors + 2000000} (m .boundaries) step in
+    record { frames = omega (arith, m .frames); nuclei = omega (arith, m .nuclei); sums = omega (arith, steps, m .frames, m .nuclei) }
 
 some-anchor : (frames : List ℕ) → T (nonEmpty frames) → 0 < length frames
 some-anchor (frame ∷ frames) t = omega arith
@@ -35,17 +46,17 @@ column-below {columns = columns} c any fits unit = go (c .columns) (fits .below)
 
 module _ (bytes : List ℕ) (accepted : refusalOf bytes ≡ none) where
   -- an accepted record's phrase fits
-  pub phrase-fit : Fit edition1 (layoutOf bytes .scores .count) (phraseOf bytes)
+  pub phrase-fit : Fit (limitsOf bytes) (layoutOf bytes .scores .count) (phraseOf bytes)
   phrase-fit = fit (record { accepted = accepted; layout = refl })
 
-  module _ (c : Candidate) (fits : CandidateFit (edition1 .units) (layoutOf bytes .scores .count) c) where
+  module _ (c : Candidate) (fits : CandidateFit (limitsOf bytes .units) (layoutOf bytes .scores .count) c) where
     column : (unit : ℕ) → getD (c .columns) unit 0 < layoutOf bytes .scores .count
     column = column-below c (phrase-fit .someColumn) fits
 
-    stage-bounded : (stage : Stage) → length (stage .boundaries) ≤ edition1 .boundaries
+    stage-bounded : (stage : Stage) → length (stage .boundaries) ≤ limitsOf bytes .boundaries
         → stage .firstRow + length (stage .anchors) ≤ length (phraseOf bytes .nuclei .anchors) + length (phraseOf bytes .added .anchors)
-        → ((frames : ℕ) → shortestUnit ≤ frames → frames ≤ longestUnit → Within binary64 (stage .duration frames) (documentRanges .duration))
-        → Bounded documentRanges (phraseOf bytes) stage (c .columns)
+        → ((frames : ℕ) → shortestUnit ≤ frames → frames ≤ longestUnit → Within binary64 (stage .duration frames) (rangesOf (limitsOf bytes) .duration))
+        → Bounded (rangesOf (limitsOf bytes)) (phraseOf bytes) stage (c .columns)
     stage-bounded stage few rows durations =
         let f = phrase-fit in
         record {
@@ -59,7 +70,7 @@ module _ (bytes : List ℕ) (accepted : refusalOf bytes ≡ none) where
           durations = durations;
         }
 
-    pub bounded : PhraseBounded documentRanges (phraseOf bytes) (c .columns)
+    pub bounded : PhraseBounded (rangesOf (limitsOf bytes)) (phraseOf bytes) (c .columns)
     bounded =
         let f = phrase-fit in
         record {

@@ -9,12 +9,12 @@ use lib.Dec.{ltb}
 use lib.ListN.{length}
 use Rattle.laws.proofs.Listed.{length-listed}
 use Rattle.laws.proofs.Choices.{neither-left, neither-right}
-use Rattle.record.specs.Edition.{edition1}
-use Rattle.record.specs.Layout.{layoutOf}
+use Rattle.limits.specs.Sizes.{entryWords, workCells}
+use Rattle.record.specs.Layout.{layoutOf, limitsOf}
 use Rattle.record.specs.Conditions.{shortDesk}
 use Rattle.record.specs.Refusals.{refusalOf, refusalWith, checkedWith}
 use Rattle.record.specs.Meaning.{phraseAt, phraseOf}
-use Rattle.record.specs.Accepted.{Laid}
+use Rattle.record.specs.inner.Accepted.{Laid}
 use Rattle.record.specs.declared.layout.Layout.{Layout}
 use Rattle.record.specs.declared.refusal.Refusal.{Refusal}
 use Rattle.record.specs.declared.refusal.Refusal.the-variants.{Desk}
@@ -30,9 +30,9 @@ candidates-counted bytes = length-listed _ (layoutOf bytes .candidates .count)
 pub record AcceptedCall (bytes : List ℕ) (best back out : ℕ) (at : Layout) : Type 0 where
   pub none-given : refusalWith bytes best back out ≡ none
   pub laid : Laid bytes at
-  pub values : edition1 .«work_cells» ≤ best
-  pub marks : edition1 .«work_cells» ≤ back
-  pub words : length (phraseOf bytes .candidates) * edition1 .«entry_words» ≤ out
+  pub values : workCells (limitsOf bytes) ≤ best
+  pub marks : workCells (limitsOf bytes) ≤ back
+  pub words : length (phraseOf bytes .candidates) * entryWords (limitsOf bytes .units) ≤ out
 
 module _ (bytes : List ℕ) (best back out : ℕ) where
   -- a record that is accepted with lent buffers is one that no rule of its own refuses
@@ -43,8 +43,8 @@ module _ (bytes : List ℕ) (best back out : ℕ) where
       go none e = e
       go (some q) e = absurd (Option·some-ne-none q (sym (refused-first bytes best back out q e) ∙ accepted))
 
-  long-enough : refusalWith bytes best back out ≡ none → shortDesk edition1 (layoutOf bytes .candidates .count) best back out ≡ false
-  long-enough accepted = go (shortDesk edition1 (layoutOf bytes .candidates .count) best back out) (sym (desk-last bytes best back out (own-rules accepted)) ∙ accepted)
+  long-enough : refusalWith bytes best back out ≡ none → shortDesk (limitsOf bytes) (layoutOf bytes .candidates .count) best back out ≡ false
+  long-enough accepted = go (shortDesk (limitsOf bytes) (layoutOf bytes .candidates .count) best back out) (sym (desk-last bytes best back out (own-rules accepted)) ∙ accepted)
     where
       go : (short : Bool) → cond short (some Desk) none ≡ none → short ≡ false
       go true e = absurd (Option·some-ne-none Desk e)
@@ -57,15 +57,15 @@ module _ (bytes : List ℕ) (best back out : ℕ) where
   accepted-call at e =
       let h = accepts (refusalWith bytes best back out) (layoutOf bytes) at e in
       let count = layoutOf bytes .candidates .count in
-      let few-values = ltb best (edition1 .«work_cells») in
-      let few-marks = ltb back (edition1 .«work_cells») in
-      let few-words = ltb out (count * edition1 .«entry_words») in
+      let few-values = ltb best (workCells (limitsOf bytes)) in
+      let few-marks = ltb back (workCells (limitsOf bytes)) in
+      let few-words = ltb out (count * entryWords (limitsOf bytes .units)) in
       let long = long-enough (h .0) in
       let cells = neither-left (few-values || few-marks) few-words long in
       record {
         none-given = h .0;
         laid = record { accepted = own-rules (h .0); layout = h .1 };
-        values = ltb-false best (edition1 .«work_cells») (neither-left few-values few-marks cells);
-        marks = ltb-false back (edition1 .«work_cells») (neither-right few-values few-marks cells);
-        words = subst (λ (m : ℕ). m * edition1 .«entry_words» ≤ out) (sym (candidates-counted bytes)) (ltb-false out (count * edition1 .«entry_words») (neither-right (few-values || few-marks) few-words long));
+        values = ltb-false best (workCells (limitsOf bytes)) (neither-left few-values few-marks cells);
+        marks = ltb-false back (workCells (limitsOf bytes)) (neither-right few-values few-marks cells);
+        words = subst (λ (m : ℕ). m * entryWords (limitsOf bytes .units) ≤ out) (sym (candidates-counted bytes)) (ltb-false out (count * entryWords (limitsOf bytes .units)) (neither-right (few-values || few-marks) few-words long));
       }

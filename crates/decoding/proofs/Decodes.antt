@@ -6,7 +6,8 @@ use mathlib.Core.Path.{_≡_, refl, sym, ap, _∙_}
 use lib.ListN.{length, replicate, drop}
 use lib.Ieee.{Float, binary64, ofBits}
 use Rattle.frames.specs.Outcome.{accepted}
-use Rattle.record.specs.Edition.{edition1}
+use Rattle.limits.specs.Sizes.{entryWords, workCells}
+use Rattle.record.specs.Layout.{limitsOf}
 use Rattle.record.specs.Refusals.{refusalWith}
 use Rattle.record.specs.Meaning.{phraseOf}
 use Rattle.record.specs.declared.refusal.Refusal.{Refusal}
@@ -31,9 +32,9 @@ module _ (bytes : List ℕ) (best : List Float) (back out : List ℕ) where
 
   pub decodes-accepted :
       {best′ : List Float} {back′ out′ : List ℕ} (count : ℕ) → refusal ≡ none → count ≡ length (phraseOf bytes .candidates) →
-      out′ ≡ allWords (edition1 .units) (ranked (entriesOf (phraseOf bytes))) ++ drop (length (phraseOf bytes .candidates) * edition1 .«entry_words») out →
-      best′ ≡ replicate (edition1 .«work_cells») (ofBits binary64 0) ++ drop (edition1 .«work_cells») best →
-      back′ ≡ replicate (edition1 .«work_cells») 0 ++ drop (edition1 .«work_cells») back →
+      out′ ≡ allWords (limitsOf bytes .units) (ranked (entriesOf (phraseOf bytes))) ++ drop (length (phraseOf bytes .candidates) * entryWords (limitsOf bytes .units)) out →
+      best′ ≡ replicate (workCells (limitsOf bytes)) (ofBits binary64 0) ++ drop (workCells (limitsOf bytes)) best →
+      back′ ≡ replicate (workCells (limitsOf bytes)) 0 ++ drop (workCells (limitsOf bytes)) back →
       Decodes bytes best back out (Entries count) best′ back′ out′
   decodes-accepted count e counted words values marks =
       let own = own-rules bytes (length best) (length back) (length out) e in

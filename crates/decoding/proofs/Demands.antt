@@ -11,23 +11,26 @@ use Rattle.ieee.proofs.NarrowClamp.{clampedLog-within}
 use Rattle.phrase.specs.Phrase.{Candidate}
 use Rattle.paths.specs.Demand.{Answer, answerNumber, Demanded}
 use Rattle.paths.specs.Search.{chosen}
+use Rattle.paths.specs.theory.Bounded.{Room}
+use Rattle.limits.proofs.Editions.{moderate}
 use Rattle.paths.proofs.Demanded.{Alike, paths-alike, none-alike, unvoiced-alike}
-use Rattle.paths.proofs.Answers.{document-room, chosen-demanded, only-answer}
-use Rattle.record.specs.Edition.{edition1}
-use Rattle.record.specs.Layout.{layoutOf}
+use Rattle.paths.proofs.Answers.{chosen-demanded, only-answer}
+use Rattle.limits.specs.Sizes.{entryWords}
+use Rattle.record.specs.Layout.{trailerOf, layoutOf, limitsOf}
 use Rattle.record.specs.Refusals.{refusalOf}
 use Rattle.record.specs.Meaning.{phraseOf}
-use Rattle.record.specs.Accepted.{CandidateFit}
+use Rattle.record.specs.inner.Accepted.{CandidateFit}
 use Rattle.entries.specs.Entry.{Entry}
 use Rattle.entries.specs.Words.{allWords}
-use Rattle.entries.specs.Placing.{Fit, All, Rankable}
+use Rattle.entries.specs.inner.Placing.{Fit, All, Rankable}
 use Rattle.entries.specs.Ranking.{ranked, Ranked}
 use Rattle.entries.proofs.EntryWords.{length-allWords}
 use Rattle.entries.proofs.Ranks.{all-ranked, ranked-is}
 use Rattle.entries.proofs.RankedLength.{length-ranked}
 use Rattle.decoding.specs.EntryOf.{entryFor, entryBy, entryOf, entriesOf}
+use Rattle.decoding.specs.theory.Ranges.{rangesOf}
 use Rattle.decoding.specs.Contract.{Meets, MeetsEach, all-met, each-met}
-use Rattle.decoding.proofs.Bounded.{phrase-fit, bounded}
+use Rattle.decoding.proofs.Bounded.{room, phrase-fit, bounded}
 use Rattle.decoding.proofs.Units.{length-units}
 
 -- what holds of no candidates, and of one more that is as P says, holds of a list of such
@@ -41,10 +44,13 @@ each-candidate {P = P} {Q = Q} no-more more (c ∷ cs) fits =
 
 module _ (bytes : List ℕ) (accepted : refusalOf bytes ≡ none) where
   abbrev Fits : Candidate → Type 0
-  Fits = CandidateFit (edition1 .units) (layoutOf bytes .scores .count)
+  Fits = CandidateFit (limitsOf bytes .units) (layoutOf bytes .scores .count)
+
+  enough : Room (rangesOf (limitsOf bytes))
+  enough = room (moderate (trailerOf bytes .edition))
 
   pub answered : {c : Candidate} → Fits c → Demanded (phraseOf bytes) (c .columns) (chosen (phraseOf bytes) (c .columns))
-  answered {c} fits = chosen-demanded document-room (bounded bytes accepted c fits)
+  answered {c} fits = chosen-demanded enough (bounded bytes accepted c fits)
 
   met : {c : Candidate} → Fits c → Meets (phraseOf bytes) c (entryOf (phraseOf bytes) c)
   unfolding entryBy
@@ -56,35 +62,35 @@ module _ (bytes : List ℕ) (accepted : refusalOf bytes ≡ none) where
       (phraseOf bytes .candidates) (phrase-fit bytes accepted .candidates)
 
   -- an entry's llr is a binary32 value and no NaN, and its units are at most as many as an entry has room for
-  pub entry-fits : {c : Candidate} → Fits c → Fit (edition1 .units) (entryOf (phraseOf bytes) c)
+  pub entry-fits : {c : Candidate} → Fits c → Fit (limitsOf bytes .units) (entryOf (phraseOf bytes) c)
   unfolding entryBy entryFor
   entry-fits {c} fits =
-      record { rankable = real-comparable (clampedLog-within _ .real); few = subst (λ (n : ℕ). n ≤ edition1 .units) (sym (length-units (answered fits))) (fits .fewUnits) }
+      record { rankable = real-comparable (clampedLog-within _ .real); few = subst (λ (n : ℕ). n ≤ limitsOf bytes .units) (sym (length-units (answered fits))) (fits .fewUnits) }
 
-  pub entries-fit : All (Fit (edition1 .units)) (entriesOf (phraseOf bytes))
+  pub entries-fit : All (Fit (limitsOf bytes .units)) (entriesOf (phraseOf bytes))
   entries-fit =
-      each-candidate {P = Fits} {Q = λ cs. All (Fit (edition1 .units)) (map (entryOf (phraseOf bytes)) cs)} All.none (λ c cs fits. All.more (entry-fits fits))
+      each-candidate {P = Fits} {Q = λ cs. All (Fit (limitsOf bytes .units)) (map (entryOf (phraseOf bytes)) cs)} All.none (λ c cs fits. All.more (entry-fits fits))
       (phraseOf bytes .candidates) (phrase-fit bytes accepted .candidates)
 
   pub ranking : Ranked (entriesOf (phraseOf bytes)) (ranked (entriesOf (phraseOf bytes)))
   ranking = ranked-is (rankable entries-fit)
     where
-      rankable : {es : List Entry} → All (Fit (edition1 .units)) es → All Rankable es
+      rankable : {es : List Entry} → All (Fit (limitsOf bytes .units)) es → All Rankable es
       rankable All.none = All.none
       rankable (All.more fits others) = All.more (fits .rankable) (rankable others)
 
   -- "Words past M × 52 are untouched": the words of the entries are M × 52
-  pub words-long : length (allWords (edition1 .units) (ranked (entriesOf (phraseOf bytes)))) ≡ length (phraseOf bytes .candidates) * edition1 .«entry_words»
+  pub words-long : length (allWords (limitsOf bytes .units) (ranked (entriesOf (phraseOf bytes)))) ≡ length (phraseOf bytes .candidates) * entryWords (limitsOf bytes .units)
   words-long =
-      length-allWords (edition1 .units) (all-ranked (Fit (edition1 .units)) entries-fit)
-      ∙ ap (λ (n : ℕ). n * edition1 .«entry_words»)
+      length-allWords (limitsOf bytes .units) (all-ranked (Fit (limitsOf bytes .units)) entries-fit)
+      ∙ ap (λ (n : ℕ). n * entryWords (limitsOf bytes .units))
       (length-ranked (entriesOf (phraseOf bytes)) ∙ length-map (phraseOf bytes .candidates) (entryOf (phraseOf bytes)))
 
   -- Demand 3 leaves one answer, up to which of several best paths stands and the sign of a zero: so the pass is settled by it alone.
   pub same-pass : {c : Candidate} {entry : Entry} → Fits c → Meets (phraseOf bytes) c entry → entry .pass ≡ entryOf (phraseOf bytes) c .pass
   unfolding entryBy entryFor
   same-pass {c} fits meets =
-      ap (λ (e : Entry). e .pass) (meets .reported) ∙ number (only-answer document-room (bounded bytes accepted c fits) (meets .demanded))
+      ap (λ (e : Entry). e .pass) (meets .reported) ∙ number (only-answer enough (bounded bytes accepted c fits) (meets .demanded))
     where
       number : {one two : Answer} → Alike one two → answerNumber one ≡ answerNumber two
       number (paths-alike equal) = refl

@@ -7,7 +7,4 @@ pub mod Demands
 pub mod Decodes
 pub mod OneOutcome
 pub mod Alike
-mod Group
-mod Examples
-mod AlikeExamples
-mod ShutOut
+pub mod Examples

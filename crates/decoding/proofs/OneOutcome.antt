@@ -3,9 +3,10 @@
 use Prim.Native.Nat.{ℕ, _-_}
 use mathlib.Core.List.{List, [], _∷_}
 use mathlib.Core.Option.{Option, none, some}
-use mathlib.Core.Path.{_≡_, refl, sym, ap, _∙_}
+use mathlib.Core.Path.{_≡_, refl, sym, ap, ap₂, _∙_}
 use lib.ListN.{length, getD}
 use lib.Ieee.{Float}
+use Rattle.laws.specs.theory.OneOutcome.{ExactlyOne}
 use Rattle.frames.specs.Outcome.{Outcome, accepted, refused}
 use Rattle.record.specs.Refusals.{numberOf, refusalWith}
 use Rattle.record.specs.declared.refusal.Refusal.{Refusal}
@@ -79,3 +80,21 @@ some-outcome bytes best back out = go (refusalWith bytes (length best) (length b
         (answer : Decoded) × (best′ : List Float) × (back′ : List ℕ) × (out′ : List ℕ) × Decodes bytes best back out answer best′ back′ out′
     go none e = (Entries (length (phraseOf bytes .candidates)), _, _, _, decodes-accepted bytes best back out _ e refl refl refl refl)
     go (some q) e = (Refused q, best, back, out, decodes-refused bytes best back out q e)
+
+-- ---- both as one statement
+
+pub together : {A B C D : Type 0} {a a′ : A} {b b′ : B} {c c′ : C} {d d′ : D} → a ≡ a′ → b ≡ b′ → c ≡ c′ → d ≡ d′
+    → _≡_ {A = A × B × C × D} (a, b, c, d) (a′, b′, c′, d′)
+together {a = a} {a′} {b} {b′} {c} {c′} {d} p q r s =
+    ap₂ (λ x y. (x, y, c, d)) p q ∙ ap₂ (λ z w. (a′, b′, z, w)) r s
+
+-- of the answer, the work areas and the output
+pub exactly-one :
+    (bytes : List ℕ) (best : List Float) (back out : List ℕ) →
+    ExactlyOne (λ (w : Decoded × List Float × List ℕ × List ℕ). Decodes bytes best back out (w .0) (w .1) (w .2) (w .3))
+exactly-one bytes best back out =
+    let there = some-outcome bytes best back out in
+    record {
+      some-outcome = ((there .0, there .1, there .2, there .3), there .4);
+      one-outcome = λ v w p q. let same = one-outcome bytes best back out p q in together (same .answers) (same .values) (same .marks) (same .words);
+    }

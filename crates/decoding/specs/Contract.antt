@@ -11,10 +11,11 @@ use Rattle.frames.specs.Outcome.{Outcome, accepted, refused}
 use Rattle.entries.specs.Entry.{Entry}
 use Rattle.entries.specs.Words.{allWords}
 use Rattle.entries.specs.Ranking.{ranked, Ranked}
-use Rattle.record.specs.Edition.{edition1}
+use Rattle.limits.specs.Sizes.{entryWords, workCells}
+use Rattle.record.specs.Layout.{limitsOf}
 use Rattle.record.specs.Refusals.{numberOf, refusalWith}
 use Rattle.record.specs.Meaning.{phraseOf}
-use Rattle.record.specs.declared.limits.Limits.{Limits}
+use Rattle.limits.specs.declared.edition.Limits.{Limits}
 use Rattle.record.specs.declared.refusal.Refusal.{Refusal}
 use Rattle.decoding.specs.EntryOf.{entryFor, entriesOf}
 use Rattle.decoding.specs.declared.answer.Decoded.{Decoded}
@@ -53,9 +54,9 @@ pub data MeetsEach (phrase : Phrase) : List Candidate → List Entry → Type 0 
 pub record Written (l : Limits) (phrase : Phrase) (best : List Float) (back out : List ℕ) (best′ : List Float) (back′ out′ : List ℕ) : Type 0 where
   pub demands : MeetsEach phrase (phrase .candidates) (entriesOf phrase)
   pub ranking : Ranked (entriesOf phrase) (ranked (entriesOf phrase))
-  pub words : out′ ≡ allWords (l .units) (ranked (entriesOf phrase)) ++ drop (length (phrase .candidates) * l .«entry_words») out
-  pub values : best′ ≡ replicate (l .«work_cells») (ofBits binary64 0) ++ drop (l .«work_cells») best
-  pub marks : back′ ≡ replicate (l .«work_cells») 0 ++ drop (l .«work_cells») back
+  pub words : out′ ≡ allWords (l .units) (ranked (entriesOf phrase)) ++ drop (length (phrase .candidates) * entryWords (l .units)) out
+  pub values : best′ ≡ replicate (workCells l) (ofBits binary64 0) ++ drop (workCells l) best
+  pub marks : back′ ≡ replicate (workCells l) 0 ++ drop (workCells l) back
 
 -- ---- a refused call
 
@@ -70,5 +71,5 @@ pub record Untouched (best : List Float) (back out : List ℕ) (best′ : List F
 -- A call lends the record's bytes, two work areas and the output; the primed lists are what it leaves in them.
 pub record Decodes (bytes : List ℕ) (best : List Float) (back out : List ℕ) (answer : Decoded) (best′ : List Float) (back′ out′ : List ℕ) : Type 0 where
   pub answered : outcome answer ≡ outcomeOf (refusalWith bytes (length best) (length back) (length out)) (length (phraseOf bytes .candidates))
-  pub accepts : refusalWith bytes (length best) (length back) (length out) ≡ none → Written edition1 (phraseOf bytes) best back out best′ back′ out′
+  pub accepts : refusalWith bytes (length best) (length back) (length out) ≡ none → Written (limitsOf bytes) (phraseOf bytes) best back out best′ back′ out′
   pub refuses : (refusal : Refusal) → refusalWith bytes (length best) (length back) (length out) ≡ some refusal → Untouched best back out best′ back′ out′

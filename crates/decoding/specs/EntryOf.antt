@@ -4,11 +4,12 @@ use mathlib.Core.List.{List, map}
 use lib.IntN.{pos}
 use lib.ListN.{length, replicate}
 use lib.Ieee.{Float, binary32, mul, ofInt}
+use Rattle.limits.specs.Common.{absent}
 use Rattle.ieee.specs.Convert.{clampedLog}
 use Rattle.phrase.specs.Phrase.{Phrase, Candidate}
 use Rattle.paths.specs.Demand.{Answer, found, none, unvoiced, answerNumber}
 use Rattle.paths.specs.Search.{chosen}
-use Rattle.entries.specs.Entry.{ReportedUnit, Entry, noRow}
+use Rattle.entries.specs.Entry.{ReportedUnit, Entry}
 use Rattle.decoding.specs.Report.{lowEdge, reportedUnits}
 
 -- "No path: f32 k × unvoiced, widened": an f32 is the same value when it is widened.
@@ -20,7 +21,7 @@ missedTotal phrase k = missedBy k (phrase .costs .«unvoiced»)
 
 -- "No path: k empty spans at speech start, or 0 without speech, each with row 4,294,967,295."
 abbrev pub missedUnits : Phrase → ℕ → List ReportedUnit
-missedUnits phrase k = replicate k (record { start = lowEdge (phrase .speech); end = lowEdge (phrase .speech); row = noRow })
+missedUnits phrase k = replicate k (record { start = lowEdge (phrase .speech); end = lowEdge (phrase .speech); row = absent })
 
 -- the score before it is clamped: the chosen path's sum, or what stands in for it
 abbrev pub totalOf : Phrase → ℕ → Answer → Float

@@ -3,6 +3,7 @@
 -- its path frames, then `clip_unanchored`."
 use Prim.Native.Nat.{ℕ}
 use mathlib.Core.List.{List, [], _∷_, map, zipWith}
+use Rattle.limits.specs.Common.{absent}
 use Rattle.phrase.specs.Phrase.{Phrase, Stage, Speech, silent, spoken}
 use Rattle.paths.specs.declared.passes.Pass.{Pass}
 use Rattle.paths.specs.Path.{Path, Bounds, unitsOf}
@@ -12,7 +13,7 @@ use Rattle.paths.specs.Passes.{passStage}
 use Rattle.spans.specs.Spans.{spanOf}
 use Rattle.frames.specs.declared.span.Span.{Span}
 use Rattle.clip.specs.Clip.{Placed, anchored, unanchored, reported}
-use Rattle.entries.specs.Entry.{ReportedUnit, noRow}
+use Rattle.entries.specs.Entry.{ReportedUnit}
 
 -- "Speech start and end are the edges"; 0 without speech
 abbrev pub lowEdge : Speech → ℕ
@@ -48,7 +49,7 @@ placedUnit phrase stage unit = placedBy phrase stage unit (heldBy phrase stage u
 
 -- a reported span with the row of the anchor that the unit holds
 abbrev pub reportedUnit : List Anchor → Span → ReportedUnit
-reportedUnit anchors span = record { start = span .start; end = span .end; row = rowOr noRow anchors }
+reportedUnit anchors span = record { start = span .start; end = span .end; row = rowOr absent anchors }
 
 -- the units of a stage, reported
 unfoldable pub reportedIn : Phrase → Stage → List Bounds → List ReportedUnit

@@ -8,9 +8,10 @@ use lib.ListN.{length, getD, take, drop, replicate, length-append, length-replic
 use lib.Seq.{sets, sets-eq, ext-getD}
 use lib.Ieee.{binary32, toBits}
 use Rattle.entries.specs.Entry.{ReportedUnit, Entry}
-use Rattle.entries.specs.Words.{unitWords, entryWords, wordsOf, allWords}
-use Rattle.entries.specs.EntryFrom.{unitAt, unitsFrom}
-use Rattle.entries.specs.Placing.{Fit, All, none, more}
+use Rattle.limits.specs.Sizes.{entryWords}
+use Rattle.entries.specs.Words.{unitWords, wordsOf, allWords}
+use Rattle.entries.specs.inner.EntryFrom.{unitAt, unitsFrom}
+use Rattle.entries.specs.inner.Placing.{Fit, All, none, more}
 use Rattle.laws.proofs.Stores.{sets-append}
 
 pub length-unitsFrom : (starts ends rows : List ℕ) (left i : ℕ) → length (unitsFrom starts ends rows left i) ≡ left

@@ -7,7 +7,7 @@ use native.Mathlib.Omega.{arith}
 use lib.ListN.{getD, set}
 use lib.Seq.{sets}
 use Rattle.entries.specs.Words.{unitWords}
-use Rattle.entries.specs.EntryFrom.{unitsFrom}
+use Rattle.entries.specs.inner.EntryFrom.{unitsFrom}
 
 -- three stores, at the places as code counts them
 three : (l vs : List ℕ) (at next a b c : ℕ) → at + 3 ≡ next → sets l at (a ∷ b ∷ c ∷ vs) ≡ sets (set (set (set l at a) (at + 1) b) (at + 2) c) next vs

@@ -2,5 +2,4 @@
 pub mod Entry
 pub mod Words
 pub mod Ranking
-pub mod EntryFrom
-pub mod Placing
+pub mod inner

@@ -10,10 +10,6 @@ unfoldable pub unitWords : List ReportedUnit → List ℕ
 unitWords [] = []
 unitWords (u ∷ us) = u .start ∷ u .end ∷ u .row ∷ unitWords us
 
--- how many words an entry has
-abbrev pub entryWords : ℕ → ℕ
-entryWords most = 4 + 3 * most
-
 unfoldable pub wordsOf : ℕ → Entry → List ℕ
 unfolding unitWords
 wordsOf most e =

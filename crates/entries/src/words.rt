@@ -1,23 +1,18 @@
 // The words of one result entry (document 01, "Spans, marks and order").
 
+use limits::edition::HEAD_WORDS;
+use limits::edition::UNIT_WORDS;
 ghost use mathlib.Core.Path.{_≡_};
 ghost use mathlib.Core.Bool.{not};
 ghost use mathlib.Core.List.{[], _∷_, _++_};
-ghost use Prim.Native.Nat.{_+_, _*_, _-_, _≤_};
+ghost use Prim.Native.Nat.{_+_, _*_, _-_, _≤_, _<_, _^_};
 ghost use lib.Dec.{T};
 ghost use lib.ListN.{length, take, drop, replicate};
 ghost use lib.Seq.{sets};
 ghost use lib.Ieee.{Float, binary32, isNan, toBits};
-ghost use Rattle.entries.specs.Words.{unitWords, entryWords, wordsOf};
-ghost use Rattle.entries.specs.EntryFrom.{mostUnits, unitsFrom, Writable, entryFrom};
-
-// How many units an entry has room for.
-pub const MOST_UNITS: usize = 16;
-
-// Id, llr, pass and count of units stand before the units.
-const HEAD_WORDS: usize = 4;
-
-pub const ENTRY_WORDS: usize = HEAD_WORDS + 3 * MOST_UNITS;
+ghost use Rattle.limits.specs.Sizes.{headWords, entryWords};
+ghost use Rattle.entries.specs.Words.{unitWords, wordsOf};
+ghost use Rattle.entries.specs.inner.EntryFrom.{unitsFrom, Writable, entryFrom};
 
 // An entry without its units.
 pub struct EntryHead {
@@ -28,7 +23,7 @@ pub struct EntryHead {
 }
 
 fn put_head(out: &mut [u32], at: usize, head: EntryHead)
-    requires { ⌜ (at + 4 ≤ length (now out)) × (head .units ≤ mostUnits) × T (not (isNan (head .llr))) ⌝ }
+    requires { ⌜ (at + headWords ≤ length (now out)) × (head .units < 2 ^ 32) × T (not (isNan (head .llr))) ⌝ }
     ensures { λ r. ⌜ now (out .exit) ≡ sets (now (out .entry)) at (head .id ∷ toBits binary32 (head .llr) ∷ head .pass ∷ head .units ∷ []) ⌝ }
 {
     let llr = head.llr;
@@ -44,7 +39,7 @@ fn put_units(out: &mut [u32], at: usize, count: usize, starts: &[u32], ends: &[u
 {
     let mut i = 0;
     while i < count {
-        let to = at + 3 * i;
+        let to = at + UNIT_WORDS * i;
         out[to] = starts[i];
         out[to + 1] = ends[i];
         out[to + 2] = rows[i];
@@ -63,22 +58,23 @@ fn put_zeros(out: &mut [u32], from: usize, to: usize)
     }
 }
 
-// The entry's words at word `at`; its units are the first of the three lists.
+// The words at word `at` of an entry with room for `most` units; its units are the first of the three lists.
 pub fn put_entry(
     out: &mut [u32],
     at: usize,
+    most: usize,
     head: EntryHead,
     starts: &[u32],
     ends: &[u32],
     rows: &[u32],
 )
-    requires { ⌜ at + entryWords mostUnits ≤ length (now out) ⌝ }
-    requires { ⌜ Writable mostUnits head (now starts) (now ends) (now rows) ⌝ }
-    ensures { λ r. ⌜ ((total : Float) → now (out .exit) ≡ take at (now (out .entry)) ++ wordsOf mostUnits (entryFrom head (now (starts .entry)) (now (ends .entry)) (now (rows .entry)) total) ++ drop (at + entryWords mostUnits) (now (out .entry))) ⌝ }
+    requires { ⌜ at + entryWords most ≤ length (now out) ⌝ }
+    requires { ⌜ Writable most head (now starts) (now ends) (now rows) ⌝ }
+    ensures { λ r. ⌜ ((total : Float) → now (out .exit) ≡ take at (now (out .entry)) ++ wordsOf most (entryFrom head (now (starts .entry)) (now (ends .entry)) (now (rows .entry)) total) ++ drop (at + entryWords most) (now (out .entry))) ⌝ }
 {
     let units = head.units;
-    let unused = at + HEAD_WORDS + 3 * units;
+    let unused = at + HEAD_WORDS + UNIT_WORDS * units;
     put_head(out, at, head);
     put_units(out, at + HEAD_WORDS, units, starts, ends, rows);
-    put_zeros(out, unused, at + ENTRY_WORDS);
+    put_zeros(out, unused, at + (HEAD_WORDS + UNIT_WORDS * most));
 }

@@ -4,6 +4,7 @@ use mathlib.Core.Bool.{Bool, true, false}
 use mathlib.Core.List.{List, [], _∷_, _++_, map}
 use mathlib.Core.Path.{_≡_, refl}
 use lib.ListN.{replicate}
+use Rattle.laws.specs.Rules.{firstOf}
 use Rattle.frames.specs.Outcome.{accepted, refused, anyAbove}
 use Rattle.frames.specs.declared.list.Nearest.{Nearest}
 use Rattle.frames.specs.declared.list.Nearest.the-variants.{None, At}
@@ -30,12 +31,12 @@ joins-voice = refl
 
 -- each edge has its own answer
 joins-both : joinsOf (replicate 9 1) (replicate 9 1) 2 6 ≡ accepted (record { start = false; end = true })
-unfolding joinsOf joined allMarked anyAbove
+unfolding joinsOf joined allMarked anyAbove firstOf
 joins-both = refl
 
 -- "no frame above 4,095 (5)": 4,095 and 4,096
 joins-late : map (joinsOf [] [] 0) (4095 ∷ 4096 ∷ []) ≡ accepted (record { start = false; end = false }) ∷ refused 5 ∷ []
-unfolding joinsOf joined anyAbove
+unfolding joinsOf joined anyAbove firstOf
 joins-late = refl
 
 -- ---- creaky_tail: frame 1 is the last pitched one, so that the run starts at frame 2
@@ -79,10 +80,10 @@ tail-last = refl
 
 -- "none means no"
 tail-unpitched : creakyTailOf 0 3 None (replicate 20 0) (replicate 20 1) ≡ accepted false
-unfolding creakyTailOf lastPitched anyAbove
+unfolding creakyTailOf lastPitched anyAbove firstOf
 tail-unpitched = refl
 
 -- the whole call: the span 0..3 and a run of 5 frames
 tail-creaky : creakyTailOf 0 3 None pitchedTwo (replicate 7 1) ≡ accepted true
-unfolding creakyTailOf lastPitched tailFrom runFrom anyAbove
+unfolding creakyTailOf lastPitched tailFrom runFrom anyAbove firstOf
 tail-creaky = refl

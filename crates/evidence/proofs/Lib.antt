@@ -1,3 +1,4 @@
 -- Laws of this layer's definitions.
 mod Tail
 mod Examples
+mod OneOutcome

@@ -4,7 +4,9 @@ use mathlib.Core.Bool.{Bool, true, false, not, _&&_, _||_, cond}
 use mathlib.Core.List.{List, [], _∷_}
 use lib.Dec.{leb, ltb}
 use lib.ListN.{length}
-use Rattle.frames.specs.Outcome.{Outcome, accepted, refused, check, checked, anyAbove, lastFrame, mostBytes}
+use Rattle.limits.specs.Common.{lastFrame}
+use Rattle.laws.specs.Rules.{rule}
+use Rattle.frames.specs.Outcome.{Outcome, accepted, refused, checked, anyAbove, mostBytes}
 use Rattle.evidence.specs.Masks.{marked}
 use Rattle.frames.specs.Frames.{orElse}
 use Rattle.frames.specs.declared.list.Nearest.{Nearest}
@@ -64,7 +66,7 @@ outcome Track = refused 5
 unfoldable pub creakyTailOf : ℕ → ℕ → Nearest → List ℕ → List ℕ → Outcome Bool
 creakyTailOf start end next pitched vowel =
     checked
-    (check 3 (ltb mostBytes (length pitched) || ltb mostBytes (length vowel))
-    ∷ check 5 (anyAbove 1 pitched || anyAbove 1 vowel || ltb lastFrame start || ltb lastFrame end || beyond lastFrame next)
+    (rule 3 (ltb mostBytes (length pitched) || ltb mostBytes (length vowel))
+    ∷ rule 5 (anyAbove 1 pitched || anyAbove 1 vowel || ltb lastFrame start || ltb lastFrame end || beyond lastFrame next)
     ∷ [])
     (tailAfter (lastPitched pitched start end) next pitched vowel)

@@ -4,7 +4,9 @@ use mathlib.Core.Bool.{Bool, _&&_, _||_}
 use mathlib.Core.List.{List, [], _∷_}
 use lib.Dec.{leb, ltb}
 use lib.ListN.{length}
-use Rattle.frames.specs.Outcome.{Outcome, accepted, refused, check, checked, anyAbove, lastFrame, mostBytes}
+use Rattle.limits.specs.Common.{lastFrame}
+use Rattle.laws.specs.Rules.{rule}
+use Rattle.frames.specs.Outcome.{Outcome, accepted, refused, checked, anyAbove, mostBytes}
 use Rattle.evidence.specs.Masks.{allMarked}
 use Rattle.evidence.specs.declared.joins.JoinsAnswer.{JoinsAnswer}
 use Rattle.evidence.specs.declared.joins.JoinsAnswer.the-variants.{Joined, Size, Track}
@@ -30,7 +32,7 @@ outcome Track = refused 5
 unfoldable pub joinsOf : List ℕ → List ℕ → ℕ → ℕ → Outcome Edges
 joinsOf voice pitched start end =
     checked
-    (check 3 (ltb mostBytes (length voice) || ltb mostBytes (length pitched))
-    ∷ check 5 (anyAbove 1 voice || anyAbove 1 pitched || ltb lastFrame start || ltb lastFrame end)
+    (rule 3 (ltb mostBytes (length voice) || ltb mostBytes (length pitched))
+    ∷ rule 5 (anyAbove 1 voice || anyAbove 1 pitched || ltb lastFrame start || ltb lastFrame end)
     ∷ [])
     (record { start = joined voice pitched start; end = joined voice pitched end })

@@ -1,9 +1,9 @@
 // Creaky tails, after `creaky_tail` of evidence.rs.
 
 use crate::masks;
-use frames::limits::LAST_FRAME;
-use frames::limits::MOST_BYTES;
 use frames::list::Nearest;
+use frames::sizes::MOST_BYTES;
+use limits::common::LAST_FRAME;
 ghost use mathlib.Core.Path.{_≡_};
 ghost use Prim.Native.Nat.{_-_, _<_, _^_};
 ghost use Rattle.evidence.specs.CreakyTail.{exists, beyond, outcome, creakyTailOf, tailFrom, lastPitched, runFrom, stopOf, inTail};

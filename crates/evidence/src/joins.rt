@@ -1,8 +1,8 @@
 // Which edges of a span are joined to a neighbouring syllable, after `joins` of evidence.rs.
 
 use crate::masks;
-use frames::limits::LAST_FRAME;
-use frames::limits::MOST_BYTES;
+use frames::sizes::MOST_BYTES;
+use limits::common::LAST_FRAME;
 ghost use mathlib.Core.Path.{_≡_};
 ghost use Rattle.evidence.specs.Joins.{joined, outcome, joinsOf};
 

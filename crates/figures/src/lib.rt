@@ -4,14 +4,20 @@
 use ieee::range::nonpositive64;
 use ieee::range::within32;
 use ieee::range::within64;
+use limits::common::DURATIONS;
 use record::bytes::u32_at;
 use record::bytes::u64_at;
+use record::format::FIRST_TABLE_AT;
+use record::format::INSERTION_AT;
+use record::format::SECOND_TABLE_AT;
+use record::format::UNVOICED_AT;
 use record::layout::Layout;
 ghost use mathlib.Core.Path.{_≡_};
 ghost use Prim.Native.Nat.{_+_, _*_, _≤_};
 ghost use lib.ListN.{length};
 ghost use Rattle.ieee.specs.Range.{within};
-ghost use Rattle.record.specs.Bounds.{Within};
+ghost use Rattle.record.specs.inner.Bounds.{Within};
+ghost use Rattle.record.specs.Format.{costsBytes, tableBytes};
 ghost use Rattle.record.specs.Conditions.{thousand, million, f32At, f64At, isDuration, badScores, badFigures, badTable, badCost};
 
 // the bits of 1,000,000 and of 1,000
@@ -56,19 +62,21 @@ fn bad_scores(bytes: &[u8], start: usize, entries: usize) -> bool
 }
 
 fn bad_figures(bytes: &[u8], costs: usize) -> bool
-    requires { ⌜ costs + 1228 ≤ length (now bytes) ⌝ }
+    requires { ⌜ costs + costsBytes ≤ length (now bytes) ⌝ }
     ensures { λ r. ⌜ r ≡ badFigures (now (bytes .entry)) costs ⌝ }
 {
-    !cost_fits(bytes, costs) | !cost_fits(bytes, costs + 8) | !score_fits(bytes, costs + 16)
+    !cost_fits(bytes, costs)
+        | !cost_fits(bytes, costs + INSERTION_AT)
+        | !score_fits(bytes, costs + UNVOICED_AT)
 }
 
 fn bad_table(bytes: &[u8], table: usize) -> bool
-    requires { ⌜ table + 600 ≤ length (now bytes) ⌝ }
+    requires { ⌜ table + tableBytes ≤ length (now bytes) ⌝ }
     ensures { λ r. ⌜ r ≡ badTable (now (bytes .entry)) table ⌝ }
 {
     let mut bad = false;
     let mut i = 0;
-    while i < 75 {
+    while i < DURATIONS {
         bad = bad | !duration_fits(bytes, table + 8 * i);
         i += 1;
     }
@@ -84,12 +92,12 @@ pub fn bad_cost(bytes: &[u8], at: Layout) -> bool
     let entries = (at.nuclei.count + at.anchors.count) * at.scores.count;
     if bad_scores(bytes, at.scores.start, entries)
         | bad_figures(bytes, costs)
-        | bad_table(bytes, costs + 28)
+        | bad_table(bytes, costs + FIRST_TABLE_AT)
     {
         return true;
     }
     if at.anchors.count == 0 {
         return false;
     }
-    bad_table(bytes, costs + 628)
+    bad_table(bytes, costs + SECOND_TABLE_AT)
 }

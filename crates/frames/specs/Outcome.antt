@@ -1,35 +1,30 @@
 -- How an entry answers: its values, or the number of a refusal (document 01, "What the decoder says no with").
 use Prim.Native.Nat.{ℕ}
-use mathlib.Core.Bool.{Bool, false, _||_, cond}
+use mathlib.Core.Bool.{Bool, false, _||_}
 use mathlib.Core.List.{List, [], _∷_}
+use mathlib.Core.Option.{Option, none, some}
 use lib.Dec.{ltb}
+use Rattle.laws.specs.Rules.{Rule, firstOf}
 
 pub data Outcome (A : Type 0) : Type 0 where
   accepted : A → Outcome A
   refused : ℕ → Outcome A
 
--- a refusal's number, and whether its condition holds
-pub record Check : Type 0 where
-  pub number : ℕ
-  pub holds : Bool
+-- an entry's values, unless its rules give the number of a refusal
+abbrev pub unless : {A : Type 0} → Option ℕ → A → Outcome A
+unless none a = accepted a
+unless (some number) a = refused number
 
--- "The lowest applicable number is given": checks stand by ascending number, and the first that holds is given.
-abbrev pub checked : {A : Type 0} → List Check → A → Outcome A
-checked [] a = accepted a
-checked (c ∷ cs) a = cond (c .holds) (refused (c .number)) (checked cs a)
-
-abbrev pub check : ℕ → Bool → Check
-check n b = record { number = n; holds = b }
+-- the values, unless a rule refuses. For "the lowest applicable number is given" the rules of an entry stand by ascending number.
+abbrev pub checked : {A : Type 0} → List (Rule ℕ) → A → Outcome A
+checked rules a = unless (firstOf rules) a
 
 -- a number of a list lies above the limit: "no byte above 1", "none above 4,095"
 unfoldable pub anyAbove : ℕ → List ℕ → Bool
 anyAbove limit [] = false
 anyAbove limit (x ∷ xs) = ltb limit x || anyAbove limit xs
 
--- the highest frame, and the most frames of a list and bytes of a mask, that an entry takes
-abbrev pub lastFrame : ℕ
-lastFrame = 4095
-
+-- the most frames of a list and bytes of a mask that an entry takes
 abbrev pub mostFrames : ℕ
 mostFrames = 64
 

@@ -14,8 +14,8 @@ use lib.Ieee.Exact.{HasValue}
 use lib.Ieee.Scale.{finite, overflow}
 use lib.Ieee.Positive.{num, den, den-pos}
 use lib.Ieee.Back.{round-whole}
-use Rattle.ieee.specs.Value.{one, mag, over, under, Real, Within}
-use Rattle.ieee.specs.Rounded.{rounding, Result}
+use Rattle.ieee.specs.inner.Value.{one, mag, over, under, Real, Within}
+use Rattle.ieee.specs.theory.Rounded.{rounding, Result}
 use Rattle.ieee.specs.Range.{between, within}
 use Rattle.ieee.proofs.Value.{one-pos, exact, sides, one-side, neg-real, neg-over, neg-under, value-finite, whole-mag}
 use Rattle.ieee.proofs.Order.{le-iff}

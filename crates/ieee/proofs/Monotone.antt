@@ -6,8 +6,8 @@ use native.Mathlib.Omega.{arith}
 use lib.Dec.{T}
 use lib.Ieee.{Float, Format, add, sub, le}
 use lib.Ieee.Scale.{finite, overflow}
-use Rattle.ieee.specs.Value.{over, under, Real}
-use Rattle.ieee.specs.Rounded.{rounding, Result}
+use Rattle.ieee.specs.inner.Value.{over, under, Real}
+use Rattle.ieee.specs.theory.Rounded.{rounding, Result}
 use Rattle.ieee.proofs.Value.{sides, real-small}
 use Rattle.ieee.proofs.Order.{le-iff, le-refl}
 use Rattle.ieee.proofs.Rounding.{rounding-mono}

@@ -9,7 +9,7 @@ use lib.IntN.{ℤ, pos}
 use lib.Ieee.{Float, nan, inf, fin, binary32, binary64, up, down, isNan, lt, eq, ne, neg, ofBits}
 use lib.Ieee.Fits.{down-pos}
 use Rattle.laws.proofs.Choices.{taken, passed}
-use Rattle.ieee.specs.Value.{Within}
+use Rattle.ieee.specs.inner.Value.{Within}
 use Rattle.ieee.specs.Convert.{narrowed, lowest, highest, clamped, clampedLog}
 use Rattle.ieee.proofs.Magnitude.{round-within}
 

@@ -14,7 +14,7 @@ use lib.Ieee.Fits.{down-pos, round-fits, nan-fits, inf-fits}
 use lib.Ieee.Bits.{nanBits-is, nanBits-above, ofBits-toBits, toBits-lt}
 use lib.Ieee.Exact.{HasValue}
 use lib.Ieee.Scale.{round-same}
-use Rattle.ieee.specs.Value.{one}
+use Rattle.ieee.specs.inner.Value.{one}
 use Rattle.ieee.specs.Convert.{narrowed}
 use Rattle.ieee.proofs.Rounding.{round-number}
 use Rattle.ieee.proofs.Weight.{weigh}

@@ -13,7 +13,7 @@ use lib.Ieee.{Float, fin, Format, up, down, below, level, lt, eq, le}
 use lib.Ieee.Fits.{and-i, and-l, and-r, eq→eqb}
 use lib.Ieee.Scale.{finite}
 use lib.Ieee.Positive.{den-pos}
-use Rattle.ieee.specs.Value.{one, mag, over, under, Real}
+use Rattle.ieee.specs.inner.Value.{one, mag, over, under, Real}
 use Rattle.laws.proofs.Tests.{either, either-left, either-right}
 use Rattle.laws.proofs.Numbers.{le-of-not-lt}
 use Rattle.ieee.proofs.Value.{one-pos, exact}

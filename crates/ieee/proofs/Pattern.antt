@@ -13,7 +13,7 @@ use lib.Ieee.Fits.{eq→eqb}
 use lib.Ieee.Bits.{is-false, cond-no, ofBits-fits, nanBits-above}
 use lib.Ieee.Exact.{HasValue, odd-sign}
 use lib.Ieee.Scale.{finite}
-use Rattle.ieee.specs.Value.{one, mag, over, under, Real}
+use Rattle.ieee.specs.inner.Value.{one, mag, over, under, Real}
 use Rattle.ieee.proofs.Value.{value-finite, value-mag, value-over, value-under, neg-real, neg-over, neg-under}
 use Rattle.ieee.proofs.Order.{le-iff}
 use Rattle.ieee.proofs.Weight.{weigh, weight, weight-le}

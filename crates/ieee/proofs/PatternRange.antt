@@ -10,7 +10,7 @@ use lib.Arith.{le-zero}
 use lib.Ieee.{Float, nan, inf, fin, Format, low, neg, le, hid, ones, top, ofBits, isNan}
 use lib.Ieee.Fits.{and-i, and-l, and-r, eq→eqb}
 use lib.Ieee.Bits.{nanBits-is}
-use Rattle.ieee.specs.Value.{mag, over, under}
+use Rattle.ieee.specs.inner.Value.{mag, over, under}
 use Rattle.ieee.specs.Range.{between, within, RangeTest}
 use Rattle.laws.proofs.Tests.{either, either-left, either-right, same-test}
 use Rattle.ieee.proofs.Value.{neg-real}

@@ -5,8 +5,8 @@ use native.Mathlib.Nat.{not-le-of-lt}
 use mathlib.Core.Bool.{Bool, true, false}
 use lib.Dec.{lit<}
 use lib.Ieee.{Float, nan, inf, binary32, binary64, neg, le, ofBits, fits, top}
-use Rattle.ieee.specs.Value.{one, mag, over, under, Within}
-use Rattle.ieee.specs.Rounded.{rounding}
+use Rattle.ieee.specs.inner.Value.{one, mag, over, under, Within}
+use Rattle.ieee.specs.theory.Rounded.{rounding}
 use Rattle.ieee.specs.Range.{between, within}
 use Rattle.ieee.proofs.Magnitude.{literal-within}
 

@@ -10,8 +10,8 @@ use lib.Ieee.{Float, fin, Format, up, down, unlike, round, neg, sum, add, sub, m
 use lib.Ieee.Fits.{round-fits}
 use lib.Ieee.Scale.{finite, overflow}
 use lib.Ieee.Positive.{den-pos}
-use Rattle.ieee.specs.Value.{one, mag, over, under, Real}
-use Rattle.ieee.specs.Rounded.{rounding, Result}
+use Rattle.ieee.specs.inner.Value.{one, mag, over, under, Real}
+use Rattle.ieee.specs.theory.Rounded.{rounding, Result}
 use Rattle.ieee.proofs.Value.{one-pos, exact, neg-real, neg-over, neg-under}
 use Rattle.ieee.proofs.Rounding.{round-finite, round-real, round-over, round-under, rounding-same, rounding-zero}
 

@@ -14,8 +14,8 @@ use lib.Ieee.Nearest.{closest, closest-same, div-same}
 use lib.Ieee.Order.{kept, drop, round-mono}
 use lib.Ieee.Scale.{finite, overflow}
 use lib.Ieee.Back.{round-whole}
-use Rattle.ieee.specs.Value.{one, mag, over, under, Real}
-use Rattle.ieee.specs.Rounded.{rounding}
+use Rattle.ieee.specs.inner.Value.{one, mag, over, under, Real}
+use Rattle.ieee.specs.theory.Rounded.{rounding}
 use Rattle.ieee.proofs.Value.{one-pos, finite-number, value-finite, value-mag, whole-mag, value-over, value-under}
 use Rattle.ieee.proofs.Order.{le-iff}
 

@@ -7,7 +7,8 @@ ghost use Prim.Native.Nat.{_<_, _≤_, _^_};
 ghost use lib.Dec.{T};
 ghost use lib.Ieee.{binary32, binary64, isNan, ofBits, toBits};
 ghost use lib.Ieee.Nearest.{closest};
-ghost use Rattle.ieee.specs.Convert.{narrowed, clamped, Narrowed, ClampedLog};
+ghost use Rattle.ieee.specs.Convert.{narrowed, clamped};
+ghost use Rattle.ieee.specs.inner.Conversions.{Narrowed, ClampedLog};
 
 // The weight of the sign's bit.
 const SIGN_64: u64 = 0x8000_0000_0000_0000;

@@ -7,7 +7,7 @@ use native.Mathlib.Nat.{le-refl}
 use native.Mathlib.Omega.{arith}
 use lib.Dec.{T, T-not, leb, ltb, leb→le, le→leb, ltb→lt, lt→ltb}
 use lib.Ieee.Fits.{and-i, and-l, and-r}
-use Rattle.laws.specs.Range.{firstFrom, pastLast}
+use Rattle.laws.specs.inner.Range.{firstFrom, pastLast}
 use Rattle.laws.proofs.Range.{past-le}
 use Rattle.laws.proofs.Tests.{by-test, by-choice, same-test}
 

@@ -4,7 +4,7 @@ use mathlib.Core.Bool.{Bool, true, false, cond}
 use mathlib.Core.Path.{_≡_, refl, sym, ap, ap₂, _∙_}
 use native.Mathlib.Nat.{add-zero, zero-add, add-suc, suc-add}
 use native.Mathlib.Omega.{arith}
-use Rattle.laws.specs.Range.{firstFrom, pastLast}
+use Rattle.laws.specs.inner.Range.{firstFrom, pastLast}
 use Rattle.laws.proofs.Numbers.{by-order}
 use Rattle.laws.proofs.Tests.{by-choice}
 

@@ -1,3 +1,5 @@
--- Definitions of lists and numbers that speak of nothing of the decoder.
+-- Definitions of lists, numbers, rules and outcomes that speak of nothing of the decoder.
 pub mod Listed
-pub mod Range
+pub mod Rules
+pub mod inner
+pub mod theory

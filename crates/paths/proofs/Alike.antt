@@ -19,12 +19,13 @@ use Rattle.paths.specs.Path.{Path, count, Admitted, Best, NoPath}
 use Rattle.paths.specs.Cell.{Cell, empty, held}
 use Rattle.paths.specs.CellRule.{chosenPath}
 use Rattle.paths.specs.Anchors.{Anchor, select, numbered, keptIn, kept, heldIn}
-use Rattle.paths.specs.Units.{shortestUnit, longestUnit, fitsUnit, mayHold, admitsUnit}
+use Rattle.limits.specs.Common.{shortestUnit, longestUnit}
+use Rattle.paths.specs.Units.{fitsUnit, mayHold, admitsUnit}
 use Rattle.paths.specs.StageProblem.{cost, scoreOf, unitValueOf, boundary, problemOf}
 use Rattle.paths.specs.Passes.{passProblem, speaks, nonEmpty, hasNucleus, inOrder, passes}
 use Rattle.paths.specs.Demand.{Answer, found, none, unvoiced, AdmitsNone, FirstOf, here, after, Each, all-done, each-of, Found, Demanded, a-path, no-path, no-nucleus}
 use Rattle.paths.specs.Search.{PathRule, orElse, searchBy, chosen}
-use Rattle.paths.specs.Alike.{SameLists, SameDurations, rowCount, ReadsAlike, RowsBelow}
+use Rattle.paths.specs.theory.Alike.{SameLists, SameDurations, rowCount, ReadsAlike, RowsBelow}
 use Rattle.paths.proofs.AgreeingProblems.{Agreeing, admitted-too, same-sum, best-too, no-path-too, same-chosen}
 use Rattle.paths.proofs.Chosen.{chosen-admitted, chosen-count}
 use Rattle.paths.proofs.Answers.{first-each}

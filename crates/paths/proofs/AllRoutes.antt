@@ -5,8 +5,8 @@ use native.Mathlib.Omega.{arith}
 use mathlib.Core.Path.{_≡_, refl, sym, ap, subst, _∙_}
 use mathlib.Core.List.{List, [], _∷_}
 use lib.ListN.{length, length-append, length-map}
-use Rattle.paths.specs.System.{System, Route, start, step, Way, fresh, after, Ways, none, _then_, In, last, earlier, Once, once-then, Ends, lastWay, Layered}
-use Rattle.paths.specs.Table.{gather, bring, Table, allRoutes, routeCount, At, at-first, at-next}
+use Rattle.paths.specs.theory.System.{System, Route, start, step, Way, fresh, after, Ways, none, _then_, In, last, earlier, Once, once-then, Ends, lastWay, Layered}
+use Rattle.paths.specs.theory.Table.{gather, bring, Table, allRoutes, routeCount, At, at-first, at-next}
 use Rattle.paths.proofs.Tables.{start-ends, step-ends, Invariant, Reaching, everywhere, reached, only-table, image}
 use Rattle.paths.proofs.ListPlaces.{Split, in-left, in-right, Image, image-of, at-left, at-right, at-split, at-map, map-at}
 

@@ -2,7 +2,6 @@
 use mathlib.Core.Path.{_≡_, refl}
 use mathlib.Core.List.{List}
 use Prim.Native.Nat.{ℕ}
-use lib.Dec.{lit≤}
 use lib.ListN.{length}
 use Rattle.laws.proofs.Tests.{by-choice}
 use Rattle.phrase.specs.Phrase.{Phrase}
@@ -15,8 +14,8 @@ use Rattle.paths.specs.CellRule.{chosenPath}
 use Rattle.paths.specs.Passes.{passProblem, nonEmpty, inOrder}
 use Rattle.paths.specs.Demand.{Answer, FirstOf, here, after, Each, all-done, each-of, Demanded}
 use Rattle.paths.specs.Search.{chosen}
-use Rattle.paths.specs.Finite.{Finite}
-use Rattle.paths.specs.Bounded.{Figures, Ranges, fillerBound, stepBound, Room, PhraseBounded, documentRanges}
+use Rattle.paths.specs.theory.Finite.{Finite}
+use Rattle.paths.specs.theory.Bounded.{Figures, Ranges, fillerBound, stepBound, Room, PhraseBounded}
 use Rattle.paths.proofs.Demanded.{Picked, picked, nothing, search-demanded, Alike, one-answer}
 use Rattle.paths.proofs.Finite.{finite}
 use Rattle.paths.proofs.Chosen.{none-chosen}
@@ -31,9 +30,6 @@ each-map f (each-of {pass = pass} p others) = each-of (f pass p) (each-map f oth
 pub first-each : {P : Pass → Type 0} {phrase : Phrase} {columns : List ℕ} {pass : Pass} {order : List Pass} → Each P order → FirstOf phrase columns pass order → P pass
 first-each (each-of p others) (here a) = p
 first-each (each-of p others) (after missing first) = first-each others first
-
-pub document-room : Room documentRanges
-document-room = record { frames = lit≤ tt; nuclei = lit≤ tt; sums = lit≤ tt }
 
 -- the cell rule picks a best path, or nothing where no path is admitted
 rule-picks : (q : Problem) (k : ℕ) → Finite q k → Picked q k (chosenPath q k)

@@ -4,8 +4,8 @@ use mathlib.Core.Path.{_≡_, refl, sym, subst}
 use mathlib.Core.Bool.{not}
 use lib.Dec.{T}
 use Rattle.paths.specs.Cell.{Cell, empty, held, carry}
-use Rattle.paths.specs.System.{System, Route, start, step, Runs, opening, going, Ends, stateOf, valueOf, Layered}
-use Rattle.paths.specs.Table.{Table, bestRoutes}
+use Rattle.paths.specs.theory.System.{System, Route, start, step, Runs, opening, going, Ends, stateOf, valueOf, Layered}
+use Rattle.paths.specs.theory.Table.{Table, bestRoutes}
 use Rattle.paths.proofs.Cells.{Every, every-empty, every-held, every-at, Some, some-held, some-at, some-filled, every-keep, every-carry, some-keep, some-keep-later}
 use Rattle.paths.proofs.Tables.{start-ends, step-ends, Invariant, Reaching, everywhere, reached}
 

@@ -9,8 +9,8 @@ use Rattle.paths.specs.Problem.{Problem}
 use Rattle.paths.specs.Path.{Path, count, value, sum, Admitted, Best, NoPath}
 use Rattle.paths.specs.Cell.{Cell, empty, held, carry}
 use Rattle.paths.specs.CellRule.{chosenPath}
-use Rattle.paths.specs.System.{Route, step, Runs, Ends, valueOf}
-use Rattle.paths.specs.PathSystem.{State, done, Move, stop, pathSystem, route}
+use Rattle.paths.specs.theory.System.{Route, step, Runs, Ends, valueOf}
+use Rattle.paths.specs.theory.PathSystem.{State, done, Move, stop, pathSystem, route}
 use Rattle.paths.proofs.Cells.{only-true}
 use Rattle.paths.proofs.BestRoutes.{Ordered, best-ends, best-largest, empty-none}
 use Rattle.paths.proofs.PathWays.{layered}

@@ -18,7 +18,7 @@ use Rattle.paths.specs.Cell.{Cell, empty, held}
 use Rattle.paths.specs.Passes.{passProblem, speaks, hasNucleus, inOrder, passes}
 use Rattle.paths.specs.Demand.{Answer, found, none, unvoiced, Admits, AdmitsNone, FirstOf, here, after, Each, all-done, each-of, Found, Demanded, a-path, no-path, no-nucleus}
 use Rattle.paths.specs.Search.{PathRule, orElse, searchBy}
-use Rattle.paths.specs.Finite.{Finite}
+use Rattle.paths.specs.theory.Finite.{Finite}
 use Rattle.paths.proofs.Optimal.{best-sums-equal}
 
 -- ---- the demand leaves one answer

@@ -3,12 +3,12 @@ use Prim.Native.Nat.{ℕ, suc, _+_, _*_, _^_, _≤_}
 use native.Mathlib.Nat.{mul-le-mul-right, suc-mul}
 use native.Mathlib.Omega.{arith}
 use lib.Ieee.{binary64, prec}
-use Rattle.ieee.specs.Value.{Within}
+use Rattle.ieee.specs.inner.Value.{Within}
 use Rattle.ieee.proofs.Magnitude.{add-within, sub-within, weaken}
 use Rattle.paths.specs.Problem.{Problem}
 use Rattle.paths.specs.Path.{Path, end, Admitted, begins, gaps, units, value, sum}
-use Rattle.paths.specs.Bounded.{Figures}
-use Rattle.paths.specs.Finite.{Finite}
+use Rattle.paths.specs.theory.Bounded.{Figures}
+use Rattle.paths.specs.theory.Finite.{Finite}
 use Rattle.paths.proofs.PathRoutes.{end-inside}
 
 module _ {q : Problem} {edge step : ℕ} (figures : Figures q edge step) where

@@ -4,7 +4,7 @@ use mathlib.Core.Path.{_≡_, refl, sym, ap, subst, _∙_}
 use mathlib.Core.List.{List, [], _∷_, _++_, map}
 use native.Mathlib.Nat.{zero-add, suc-add}
 use lib.ListN.{length}
-use Rattle.paths.specs.Table.{At, at-first, at-next}
+use Rattle.paths.specs.theory.Table.{At, at-first, at-next}
 
 -- a place in joined lists, by the list that it is in
 pub data Split {A : Type 0} (a : A) (s t : List A) (n : ℕ) : Type 0 where

@@ -15,10 +15,11 @@ use Rattle.paths.specs.declared.passes.Strictness.{Strictness}
 use Rattle.paths.specs.declared.passes.Strictness.the-variants.{Strict, Relaxed}
 use Rattle.paths.specs.Frames.{Increasing}
 use Rattle.paths.specs.Anchors.{Anchor, select, kept, heldIn, rowOr}
-use Rattle.paths.specs.Units.{longestUnit, fitsUnit, mayHold, admitsUnit}
+use Rattle.limits.specs.Common.{longestUnit}
+use Rattle.paths.specs.Units.{fitsUnit, mayHold, admitsUnit}
 use Rattle.paths.specs.StageProblem.{boundary, problemOf}
-use Rattle.paths.specs.Ranges.{before}
-use Rattle.paths.specs.LookAhead.{ahead, frameOr, firstAhead, secondAhead, rowAhead, takenIn}
+use Rattle.paths.specs.inner.Ranges.{before}
+use Rattle.paths.specs.theory.LookAhead.{ahead, frameOr, firstAhead, secondAhead, rowAhead, takenIn}
 use Rattle.laws.proofs.Tests.{by-test}
 use Rattle.paths.proofs.Frames.{increasing-le}
 use Rattle.paths.proofs.Select.{select-select}

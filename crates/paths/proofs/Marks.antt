@@ -10,7 +10,7 @@ use Rattle.paths.specs.Problem.{Problem}
 use Rattle.paths.specs.Path.{Path, begin, gap, unit, end, count, value, sum, Bounds, unitsOf}
 use Rattle.paths.specs.Cell.{held, best, carry}
 use Rattle.paths.specs.CellRule.{rows, paths, chosenPath}
-use Rattle.paths.specs.Marks.{Marked, marks, markOf, marked, markAt, End, ended, chosenEnd, Traces, started, crossed, united}
+use Rattle.paths.specs.inner.Marks.{Marked, marks, markOf, marked, markAt, End, ended, chosenEnd, Traces, started, crossed, united}
 use Rattle.paths.proofs.Cells.{Every, every-at, carry-carry, carry-same, carry-best}
 use Rattle.paths.proofs.Keeping.{Carried, rows-every, Same, rows-same}
 

@@ -3,8 +3,8 @@ use Prim.Native.Nat.{ℕ}
 use native.Mathlib.Omega.{arith}
 use mathlib.Core.Path.{_≡_, refl, sym, ap, ap₂, fun-ext, subst, _∙_}
 use Rattle.paths.specs.Cell.{Cell, empty, held, carry}
-use Rattle.paths.specs.System.{System, Route, start, step, fresh, after, stateOf, valueOf, lastWay, Layered}
-use Rattle.paths.specs.Table.{Table, bestRoutes, Noted, bestNotes}
+use Rattle.paths.specs.theory.System.{System, Route, start, step, fresh, after, stateOf, valueOf, lastWay, Layered}
+use Rattle.paths.specs.theory.Table.{Table, bestRoutes, Noted, bestNotes}
 use Rattle.paths.proofs.Cells.{Every, every-empty, every-held, every-at, every-keep, every-carry, carry-keep}
 use Rattle.paths.proofs.Tables.{Invariant, everywhere, only-table, Respects, image}
 use Rattle.paths.proofs.BestRoutes.{best-ends}

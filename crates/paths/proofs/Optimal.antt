@@ -5,15 +5,15 @@ use native.Mathlib.Omega.{arith}
 use mathlib.Core.Path.{_≡_}
 use lib.Dec.{T}
 use lib.Ieee.{Float, binary64, le, eq}
-use Rattle.ieee.specs.Value.{Real}
+use Rattle.ieee.specs.inner.Value.{Real}
 use Rattle.ieee.proofs.Order.{le-refl, le-trans, lt→le, not-lt→ge, le-antisym}
 use Rattle.ieee.proofs.Monotone.{add-mono, sub-mono}
 use Rattle.paths.specs.Problem.{Problem}
 use Rattle.paths.specs.Path.{Path, count, sum, Best}
 use Rattle.paths.specs.Cell.{held}
 use Rattle.paths.specs.CellRule.{chosenPath}
-use Rattle.paths.specs.PathSystem.{State, on, Move, byGap, byUnit, stop, pathSystem, allows, next}
-use Rattle.paths.specs.Finite.{Finite}
+use Rattle.paths.specs.theory.PathSystem.{State, on, Move, byGap, byUnit, stop, pathSystem, allows, next}
+use Rattle.paths.specs.theory.Finite.{Finite}
 use Rattle.paths.proofs.BestRoutes.{Ordered}
 use Rattle.paths.proofs.Chosen.{chosen-best-of}
 

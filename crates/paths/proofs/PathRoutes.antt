@@ -4,8 +4,8 @@ use native.Mathlib.Omega.{arith}
 use mathlib.Core.Path.{_≡_, refl, sym, ap, ap₂, subst}
 use Rattle.paths.specs.Problem.{Problem}
 use Rattle.paths.specs.Path.{Path, begin, gap, unit, end, count, value, sum, Admitted, begins, gaps, units}
-use Rattle.paths.specs.System.{Route, start, step, Runs, opening, going, stateOf, valueOf}
-use Rattle.paths.specs.PathSystem.{State, on, done, Move, byGap, byUnit, stop, opens, allows, leads, next, pathSystem, route}
+use Rattle.paths.specs.theory.System.{Route, start, step, Runs, opening, going, stateOf, valueOf}
+use Rattle.paths.specs.theory.PathSystem.{State, on, done, Move, byGap, byUnit, stop, opens, allows, leads, next, pathSystem, route}
 
 -- where an admitted path stands
 pub end-inside : {q : Problem} {p : Path} → Admitted q p → end p < q .size

@@ -6,8 +6,8 @@ use mathlib.Core.Bool.{Bool, true, false, cond, _&&_}
 use lib.Dec.{T, leb, ltb, leb→le, le→leb, ltb→lt, lt→ltb}
 use lib.Ieee.Fits.{and-i, and-l, and-r}
 use Rattle.paths.specs.Problem.{Problem}
-use Rattle.paths.specs.System.{Way, Ways, none, _then_, fresh, after, In, last, earlier, Once, once-none, once-then, Layered}
-use Rattle.paths.specs.PathSystem.{State, on, done, Move, byGap, byUnit, stop, opens, allows, leads, stopWays, waysIn, waysOf, pathSystem}
+use Rattle.paths.specs.theory.System.{Way, Ways, none, _then_, fresh, after, In, last, earlier, Once, once-none, once-then, Layered}
+use Rattle.paths.specs.theory.PathSystem.{State, on, done, Move, byGap, byUnit, stop, opens, allows, leads, stopWays, waysIn, waysOf, pathSystem}
 use Rattle.paths.proofs.WaysBelow.{Below, below, ways-below, in-below, below-once}
 
 -- the ways into each state, as a rule

@@ -9,15 +9,16 @@ use lib.ListN.{length, getD}
 use lib.Ieee.{Float, binary64, prec, mul}
 use lib.Ieee.Fits.{and-l, and-r}
 use Rattle.laws.proofs.Tests.{by-choice}
-use Rattle.ieee.specs.Value.{Within}
+use Rattle.ieee.specs.inner.Value.{Within}
 use Rattle.ieee.proofs.Magnitude.{add-within, sub-within, mul-within, neg-within, weaken}
 use Rattle.phrase.specs.Phrase.{Phrase, Stage}
 use Rattle.phrase.specs.Filler.{counted}
 use Rattle.paths.specs.declared.passes.Strictness.{Strictness}
 use Rattle.paths.specs.Anchors.{Anchor, select, numbered, keptIn, kept, heldIn}
-use Rattle.paths.specs.Units.{shortestUnit, longestUnit, fitsUnit, mayHold, admitsUnit}
+use Rattle.limits.specs.Common.{shortestUnit, longestUnit}
+use Rattle.paths.specs.Units.{fitsUnit, mayHold, admitsUnit}
 use Rattle.paths.specs.StageProblem.{cost, scoreOf, unitValueOf, boundary, problemOf}
-use Rattle.paths.specs.Bounded.{Figures, Ranges, fillerBound, stepBound, Room, Bounded}
+use Rattle.paths.specs.theory.Bounded.{Figures, Ranges, fillerBound, stepBound, Room, Bounded}
 use Rattle.paths.proofs.Frames.{speechIn-le}
 use Rattle.paths.proofs.Anchors.{keptIn-le, heldIn-le}
 

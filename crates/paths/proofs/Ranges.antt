@@ -6,7 +6,7 @@ use mathlib.Core.List.{List, [], _∷_}
 use Prim.Native.Nat.{ℕ, _-_, _≤_, _<_}
 use native.Mathlib.Nat.{le-refl}
 use native.Mathlib.Omega.{arith}
-use Rattle.laws.specs.Range.{pastLast}
+use Rattle.laws.specs.inner.Range.{pastLast}
 use Rattle.laws.proofs.Numbers.{by-order}
 use lib.Dec.{T, T-not, leb, ltb, eqb, leb→le, le→leb, nleb→lt, eqb→eq, lt→ltb}
 use lib.ListN.{length, getD, drop-of-length-le}
@@ -19,9 +19,10 @@ use Rattle.paths.specs.declared.passes.Strictness.{Strictness}
 use Rattle.paths.specs.declared.passes.Strictness.the-variants.{Strict, Relaxed}
 use Rattle.paths.specs.Frames.{Increasing}
 use Rattle.paths.specs.Anchors.{Anchor, select, heldIn}
-use Rattle.paths.specs.LookAhead.{ahead}
-use Rattle.paths.specs.Units.{shortestUnit, longestUnit, fitsUnit, admitsUnit}
-use Rattle.paths.specs.Ranges.{goesTo, lowOrigin, originsEnd, inRange, Origins, before, lastOf}
+use Rattle.paths.specs.theory.LookAhead.{ahead}
+use Rattle.limits.specs.Common.{shortestUnit, longestUnit}
+use Rattle.paths.specs.Units.{fitsUnit, admitsUnit}
+use Rattle.paths.specs.inner.Ranges.{goesTo, lowOrigin, originsEnd, inRange, Origins, before, lastOf}
 use Rattle.paths.proofs.Frames.{increasing-le}
 use Rattle.paths.proofs.Select.{select-same, select-select}
 use Rattle.paths.proofs.Anchors.{heldIn-split}

@@ -10,7 +10,7 @@ use lib.Dec.{T, leb, ltb, leb→le, le→leb, ltb→lt, lt→ltb}
 use lib.Ieee.{lt}
 use lib.Ieee.Fits.{and-i, and-l, and-r}
 use borrow.Author.Tests.{le-ltb}
-use Rattle.laws.specs.Range.{firstFrom}
+use Rattle.laws.specs.inner.Range.{firstFrom}
 use Rattle.laws.proofs.Tests.{by-choice, either, either-left, either-right, same-test}
 use Rattle.laws.proofs.Numbers.{by-order}
 use Rattle.laws.proofs.Convex.{first-least, first-other}
@@ -19,7 +19,7 @@ use Rattle.paths.specs.Problem.{Problem}
 use Rattle.paths.specs.Path.{sum}
 use Rattle.paths.specs.Cell.{Cell, empty, held, isHeld, keep, best, carry, only}
 use Rattle.paths.specs.CellRule.{Keeping, sweep, arrival, rows, paths, chosenPath}
-use Rattle.paths.specs.Ranges.{inRange, Origins, arrivesFrom, firstReached}
+use Rattle.paths.specs.inner.Ranges.{inRange, Origins, arrivesFrom, firstReached}
 
 -- ---- whether a cell holds something
 

@@ -10,9 +10,9 @@ use Rattle.paths.specs.Problem.{Problem}
 use Rattle.paths.specs.Path.{Path, begin, gap, unit, sum}
 use Rattle.paths.specs.Cell.{Cell, held, keep, best, carry, only}
 use Rattle.paths.specs.CellRule.{sweep, arrival, rows, paths, chosenPath}
-use Rattle.paths.specs.System.{Route, start, step, Ways, none, _then_, after, valueOf}
-use Rattle.paths.specs.Table.{gather, bring, Table, tableOf, bestRoutes}
-use Rattle.paths.specs.PathSystem.{State, on, done, Move, byGap, byUnit, stop, waysBelow, unitWays, stopWays, waysIn, waysOf, pathSystem, route}
+use Rattle.paths.specs.theory.System.{Route, start, step, Ways, none, _then_, after, valueOf}
+use Rattle.paths.specs.theory.Table.{gather, bring, Table, tableOf, bestRoutes}
+use Rattle.paths.specs.theory.PathSystem.{State, on, done, Move, byGap, byUnit, stop, waysBelow, unitWays, stopWays, waysIn, waysOf, pathSystem, route}
 use Rattle.paths.proofs.Cells.{keep-empty, carry-carry, only-true, carry-keep}
 use Rattle.paths.proofs.Tables.{only-table, table-is}
 use Rattle.paths.proofs.PathRoutes.{route-value, ended-value}

@@ -3,8 +3,8 @@
 use Prim.Native.Nat.{ℕ, zero, suc, _<_}
 use native.Mathlib.Omega.{arith}
 use mathlib.Core.Path.{_≡_, refl, sym, ap, ap₂, subst, _∙_}
-use Rattle.paths.specs.System.{System, Route, start, step, Way, fresh, after, Ways, none, _then_, In, last, earlier, Runs, opening, going, Ends, stateOf, Layered}
-use Rattle.paths.specs.Table.{Kind, bring, gather, Table, tableTo, tableOf}
+use Rattle.paths.specs.theory.System.{System, Route, start, step, Way, fresh, after, Ways, none, _then_, In, last, earlier, Runs, opening, going, Ends, stateOf, Layered}
+use Rattle.paths.specs.theory.Table.{Kind, bring, gather, Table, tableTo, tableOf}
 
 -- how a route comes to end at a state
 module _ {X E W : Type 0} (S : System X E W) where

@@ -6,8 +6,8 @@ use mathlib.Core.Bool.{Bool, true, false, cond}
 use lib.Dec.{T}
 use Rattle.laws.proofs.Tests.{by-choice}
 use Rattle.laws.proofs.Numbers.{by-order}
-use Rattle.paths.specs.System.{Way, _then_, In, last, earlier, Once, once-none, once-then}
-use Rattle.paths.specs.PathSystem.{State, Move, waysBelow}
+use Rattle.paths.specs.theory.System.{Way, _then_, In, last, earlier, Once, once-none, once-then}
+use Rattle.paths.specs.theory.PathSystem.{State, Move, waysBelow}
 
 pub data Below (ok : ℕ → Bool) (way : ℕ → Way State Move) (m : ℕ) : Way State Move → Type 0 where
   below : {i : ℕ} → i < m → T (ok i) → Below ok way m (way i)

@@ -5,17 +5,12 @@ use mathlib.Core.Bool.{Bool, _&&_}
 use mathlib.Core.List.{List}
 use lib.Dec.{leb, eqb}
 use lib.ListN.{length}
+use Rattle.limits.specs.Common.{shortestUnit, longestUnit}
 use Rattle.paths.specs.declared.passes.Strictness.{Strictness}
 use Rattle.paths.specs.declared.passes.Strictness.the-variants.{Strict, Relaxed}
 use Rattle.paths.specs.Anchors.{Anchor, heldIn}
 
--- the fewest and the most frames of a unit
-abbrev pub shortestUnit : ℕ
-shortestUnit = 6
-
-abbrev pub longestUnit : ℕ
-longestUnit = 80
-
+-- whether a unit may have so many frames
 abbrev pub fitsUnit : ℕ → Bool
 fitsUnit frames = leb shortestUnit frames && leb frames longestUnit
 

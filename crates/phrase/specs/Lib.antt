@@ -1,3 +1,5 @@
--- The definitions of this layer: what a record means, and what frames outside every unit cost.
+-- The definitions of this layer: what a record means, what frames outside every unit cost, and how units without an anchor
+-- are scored.
 pub mod Phrase
 pub mod Filler
+pub mod inner

@@ -5,7 +5,7 @@ use mathlib.Core.List.{List}
 use native.Mathlib.Omega.{arith}
 use lib.ListN.{length, take, drop, length-append}
 use lib.Seq.{take-append-seam}
-use Rattle.record.specs.Reading.{Copied}
+use Rattle.record.specs.inner.Reading.{Copied}
 
 module _ {xs old new : List ℕ} {count : ℕ} (copied : Copied xs old new count) where
   pub copied-front : take count new ≡ xs

@@ -2,36 +2,39 @@
 use Prim.Native.Nat.{ℕ, suc, _+_, _≤_, _<_, _^_}
 use mathlib.Core.Path.{_≡_, sym, ap, subst⁻¹}
 use mathlib.Core.List.{List}
+use native.Mathlib.Nat.{le-trans}
 use native.Mathlib.Omega.{arith}
 use lib.ListN.{length}
+use Rattle.limits.specs.Capacity.{mostAnchors, mostBoundaries}
 use Rattle.phrase.specs.Phrase.{Phrase}
 use Rattle.stages.specs.Parts.{Fit, FitList}
 use Rattle.record.specs.Meaning.{phraseAt, phraseOf}
-use Rattle.record.specs.Accepted.{Laid, Frames}
-use Rattle.record.specs.Reading.{stageOf}
+use Rattle.record.specs.inner.Accepted.{Laid, Frames}
+use Rattle.record.specs.inner.Reading.{stageOf}
 use Rattle.record.specs.declared.layout.Layout.{Layout}
 use Rattle.record.specs.declared.read.Which.{Which}
 use Rattle.record.specs.declared.read.Which.the-variants.{Nuclei, Count}
-use Rattle.record.proofs.Accepted.{fit, meaning, counts}
+use Rattle.limits.proofs.Editions.{moderate}
+use Rattle.record.proofs.Accepted.{fit, meaning, counts, own-moderate}
 use Rattle.prepare.specs.Sides.{firstRowIn, Followed}
 
-fit-list : (frames : List ℕ) → length frames ≤ 64 → Frames frames → FitList frames
+fit-list : {most : ℕ} (frames : List ℕ) → length frames ≤ most → Frames frames → FitList most frames
 fit-list frames few fits = record { short = few; ascending = λ i below. fits .rising i (suc i) (omega arith) below }
 
 module _ {bytes : List ℕ} {at : Layout} (h : Laid bytes at) where
-  pub few-anchors : (which : Which) → length (stageOf which (phraseOf bytes) .anchors) ≤ 64
-  few-anchors Nuclei = omega (arith, fit h .nuclei .fewAnchors)
-  few-anchors Count = fit h .added .fewAnchors
+  pub few-anchors : (which : Which) → length (stageOf which (phraseOf bytes) .anchors) ≤ mostAnchors
+  few-anchors Nuclei = le-trans (fit h .nuclei .fewAnchors) (own-moderate bytes .nuclei)
+  few-anchors Count = le-trans (fit h .added .fewAnchors) (own-moderate bytes .anchors)
 
-  pub few-boundaries : (which : Which) → length (stageOf which (phraseOf bytes) .boundaries) ≤ 64
-  few-boundaries Nuclei = fit h .nuclei .fewBoundaries
-  few-boundaries Count = fit h .added .fewBoundaries
+  pub few-boundaries : (which : Which) → length (stageOf which (phraseOf bytes) .boundaries) ≤ mostBoundaries
+  few-boundaries Nuclei = le-trans (fit h .nuclei .fewBoundaries) (own-moderate bytes .boundaries)
+  few-boundaries Count = le-trans (fit h .added .fewBoundaries) (own-moderate bytes .boundaries)
 
-  pub anchors-fit : (which : Which) → FitList (stageOf which (phraseOf bytes) .anchors)
+  pub anchors-fit : (which : Which) → FitList mostAnchors (stageOf which (phraseOf bytes) .anchors)
   anchors-fit Nuclei = fit-list _ (few-anchors Nuclei) (fit h .nuclei .anchors)
   anchors-fit Count = fit-list _ (few-anchors Count) (fit h .added .anchors)
 
-  pub boundaries-fit : (which : Which) → FitList (stageOf which (phraseOf bytes) .boundaries)
+  pub boundaries-fit : (which : Which) → FitList mostBoundaries (stageOf which (phraseOf bytes) .boundaries)
   boundaries-fit Nuclei = fit-list _ (few-boundaries Nuclei) (fit h .nuclei .boundaries)
   boundaries-fit Count = fit-list _ (few-boundaries Count) (fit h .added .boundaries)
 
@@ -40,7 +43,7 @@ module _ {bytes : List ℕ} {at : Layout} (h : Laid bytes at) where
   anchors-followed Count i below = omega (arith, fit h .added .anchors .last i below)
 
   pub mask-fits : length (phraseOf bytes .mask) < 2 ^ 32
-  mask-fits = omega (arith, fit h .fewFrames)
+  mask-fits = omega (arith, fit h .fewFrames, own-moderate bytes .frames)
 
   pub nuclei-first : phraseOf bytes .nuclei .firstRow ≡ 0
   unfolding phraseAt
@@ -53,10 +56,10 @@ module _ {bytes : List ℕ} {at : Layout} (h : Laid bytes at) where
 
   pub rows-fit : (which : Which) → stageOf which (phraseOf bytes) .firstRow + length (stageOf which (phraseOf bytes) .anchors) < 2 ^ 32
   rows-fit Nuclei = omega (arith, first-row-is Nuclei, few-anchors Nuclei)
-  rows-fit Count = omega (arith, first-row-is Count, few-anchors Count, counts h .nuclei)
+  rows-fit Count = omega (arith, first-row-is Count, few-anchors Count, counts h .nuclei, moderate (at .edition) .nuclei)
 
   pub few-nuclei : at .nuclei .count < 2 ^ 32
-  few-nuclei = omega (arith, counts h .nuclei)
+  few-nuclei = omega (arith, counts h .nuclei, moderate (at .edition) .nuclei)
 
 -- The same of parts that are read.
 module _ {bytes : List ℕ} {at : Layout} (h : Laid bytes at) (which : Which) where
@@ -64,12 +67,12 @@ module _ {bytes : List ℕ} {at : Layout} (h : Laid bytes at) (which : Which) wh
       → Fit mask bounds
   read-fit masked bounded = record {
     framed = subst⁻¹ (λ (l : List ℕ). length l < 2 ^ 32) masked (mask-fits h);
-    listed = subst⁻¹ FitList bounded (boundaries-fit h which);
+    listed = subst⁻¹ (FitList mostBoundaries) bounded (boundaries-fit h which);
   }
 
   module _ {anchors : List ℕ} (anchored : anchors ≡ stageOf which (phraseOf bytes) .anchors) where
-    pub read-listed : FitList anchors
-    read-listed = subst⁻¹ FitList anchored (anchors-fit h which)
+    pub read-listed : FitList mostAnchors anchors
+    read-listed = subst⁻¹ (FitList mostAnchors) anchored (anchors-fit h which)
 
     pub read-followed : Followed anchors
     read-followed = subst⁻¹ (λ (l : List ℕ). Followed l) anchored (anchors-followed h which)

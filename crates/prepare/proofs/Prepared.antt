@@ -7,7 +7,7 @@ use lib.ListN.{length, getD}
 use lib.Ieee.{Float, nan}
 use Rattle.laws.proofs.Listed.{table-at}
 use Rattle.phrase.specs.Phrase.{Phrase, Stage}
-use Rattle.paths.specs.Units.{shortestUnit, longestUnit}
+use Rattle.limits.specs.Common.{shortestUnit, longestUnit, durations}
 use Rattle.stages.specs.Filler.{noCost}
 use Rattle.stages.specs.Tables.{Tabled, tablesIn}
 use Rattle.stages.specs.Made.{tablesOf}
@@ -18,7 +18,7 @@ duration-at : (stage : Stage) (d : ℕ) → shortestUnit ≤ d → d ≤ longest
     → getD (durationsOf stage) (d - shortestUnit) nan ≡ stage .duration d
 duration-at stage d least most =
     let e : d - shortestUnit + shortestUnit ≡ d = omega arith in
-    table-at (λ i. stage .duration (i + shortestUnit)) 75 75 noCost nan (d - shortestUnit) (omega arith) ∙ ap (stage .duration) e
+    table-at (λ i. stage .duration (i + shortestUnit)) durations durations noCost nan (d - shortestUnit) (omega arith) ∙ ap (stage .duration) e
 
 module _ (phrase : Phrase) (stage : Stage) (numbered : phrase .nuclei .firstRow ≡ 0) {lo hi : ℕ} {words : List ℕ} {figures : List Float}
     (worded : StageWords phrase stage lo hi words) (figured : Figured phrase stage figures) where

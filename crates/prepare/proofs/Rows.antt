@@ -8,9 +8,9 @@ use lib.Seq.{drop-cons}
 use Rattle.laws.specs.Listed.{padded}
 use Rattle.frames.specs.declared.span.Span.{Span}
 use Rattle.paths.specs.Anchors.{Anchor, rowOr}
-use Rattle.paths.specs.Ranges.{before, lastOf}
+use Rattle.paths.specs.inner.Ranges.{before, lastOf}
 use Rattle.spans.specs.Spans.{spanOf}
-use Rattle.stages.specs.Room.{room}
+use Rattle.limits.specs.Capacity.{anchorRoom}
 use Rattle.stages.specs.Kept.{rowsOf}
 use Rattle.stages.specs.Ranges.{entryOf}
 use Rattle.stages.proofs.Held.{IsListed, AllListed, listed-at, figure-from}
@@ -43,14 +43,14 @@ figure-same f g rows first (suc place) same =
 
 module _ (listed : List ℕ) (first : ℕ) {mask : List ℕ} {anchors : List Anchor} {frames bounds places rows : List ℕ}
     (p : Placing mask anchors frames bounds places)
-    (rowed : rows ≡ padded (rowsOf anchors) room 0) (all : AllListed first listed anchors) where
+    (rowed : rows ≡ padded (rowsOf anchors) anchorRoom 0) (all : AllListed first listed anchors) where
   abbrev at-place : ℕ → Anchor
   at-place place = getD anchors place (record { frame = 0; row = 0 })
 
   row-is : (place : ℕ) → place < length anchors → entryOf rows place ≡ at-place place .row
   row-is place h =
       ap (λ (l : List ℕ). entryOf l place) rowed
-      ∙ figure-from (λ a. a .row) (rowOr 0) (λ _ _. refl) anchors room place (omega (arith, p .orderly .few))
+      ∙ figure-from (λ a. a .row) (rowOr 0) (λ _ _. refl) anchors anchorRoom place (omega (arith, p .orderly .few))
       ∙ ap (rowOr 0) (drop-cons anchors place (record { frame = 0; row = 0 }) h)
 
   is-listed : (place : ℕ) → place < length anchors → IsListed first listed (at-place place)

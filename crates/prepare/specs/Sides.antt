@@ -1,24 +1,25 @@
 -- What is prepared of a stage of a phrase for the search of every candidate.
-use Prim.Native.Nat.{ℕ, zero, suc, _+_, _-_, _*_, _≤_, _<_, _^_}
+use Prim.Native.Nat.{ℕ, zero, suc, _+_, _-_, _≤_, _<_, _^_}
 use mathlib.Core.Path.{_≡_}
 use mathlib.Core.List.{List, [], _∷_}
-use lib.ListN.{length, getD, take, drop}
+use lib.ListN.{length, getD}
 use lib.Ieee.{Float}
 use Rattle.laws.specs.Listed.{tableOf}
 use Rattle.phrase.specs.Phrase.{Phrase, Stage}
-use Rattle.paths.specs.Units.{shortestUnit}
+use Rattle.limits.specs.Common.{shortestUnit, durations}
 use Rattle.paths.specs.Anchors.{Anchor, keptIn, kept}
-use Rattle.paths.specs.Ranges.{before, lastOf}
+use Rattle.paths.specs.inner.Ranges.{before, lastOf}
 use Rattle.paths.specs.StageProblem.{boundary}
 use Rattle.paths.specs.Frames.{Increasing}
 use Rattle.spans.specs.Spans.{spanOf}
 use Rattle.frames.specs.declared.span.Span.{Span}
-use Rattle.stages.specs.Room.{most}
+use Rattle.limits.specs.Capacity.{mostBoundaries}
 use Rattle.stages.specs.Filler.{noCost}
 use Rattle.stages.specs.Parts.{Fills, Searched}
 use Rattle.stages.specs.Ranges.{entryOf}
 use Rattle.stages.specs.Search.{Reaches}
-use Rattle.stages.specs.Tables.{StageTables, Tabled, tableAt, tablesIn}
+use Rattle.stages.specs.Lists.{spanStartsAt, spanEndsAt, wordsLong, startsAt, gapsAt, stopsAt, figuresLong, spansLong, spanStartsIn, spanEndsIn, tableAt, durationsIn}
+use Rattle.stages.specs.Tables.{StageTables, Tabled, tablesIn}
 use Rattle.stages.specs.Made.{tablesOf}
 use Rattle.record.specs.declared.layout.Layout.{Layout}
 use Rattle.record.specs.declared.read.Which.{Which}
@@ -31,7 +32,7 @@ firstRowIn at Count = at .nuclei .count
 
 -- "duration tables of 75 f64 for 6 to 80 frames"
 abbrev pub durationsOf : Stage → List Float
-durationsOf stage = tableOf (λ i. stage .duration (i + shortestUnit)) 75 75 noCost
+durationsOf stage = tableOf (λ i. stage .duration (i + shortestUnit)) durations durations noCost
 
 -- `exact` fixes every entry of the tables, and `tabled` says what they mean.
 pub record TablesOf (phrase : Phrase) (stage : Stage) (t : StageTables) : Type 0 where
@@ -70,24 +71,24 @@ pub record RowsWithin (rows : List ℕ) (first : ℕ) (places : List ℕ) (n lon
 
 -- the tables of the edges of the spans, by the place of each boundary among the kept anchors
 pub record Spans (anchors bounds : List ℕ) (lo hi : ℕ) (rows : List ℕ) (first : ℕ) (places words : List ℕ) : Type 0 where
-  pub starts : tableAt 0 words
+  pub starts : tableAt spanStartsIn words
       ≡ tableOf (λ j. figureBefore (λ i. spanOf anchors bounds lo hi (entryOf anchors i) .start) rows first (entryOf places j))
-      (length bounds) most 0
-  pub ends : tableAt 1 words
+      (length bounds) mostBoundaries 0
+  pub ends : tableAt spanEndsIn words
       ≡ tableOf (λ j. figureBefore (λ i. spanOf anchors bounds lo hi (entryOf anchors i) .end) rows first (entryOf places j))
-      (length bounds) most 0
-  pub whole : length words ≡ 2 * most
+      (length bounds) mostBoundaries 0
+  pub whole : length words ≡ spansLong
 
 -- ---- the two lists
 
 -- the words of listed and kept anchors and boundaries
 pub record Worded (kept : List Anchor) (anchors bounds : List ℕ) (lo hi : ℕ) (words : List ℕ) : Type 0 where
   pub searched : Searched kept bounds words
-  pub starts : tableAt 5 words
-      ≡ tableOf (λ j. listedSpan anchors bounds lo hi (lastOf (before kept (getD bounds j 0))) .start) (length bounds) most 0
-  pub ends : tableAt 6 words
-      ≡ tableOf (λ j. listedSpan anchors bounds lo hi (lastOf (before kept (getD bounds j 0))) .end) (length bounds) most 0
-  pub whole : length words ≡ 482
+  pub starts : tableAt spanStartsAt words
+      ≡ tableOf (λ j. listedSpan anchors bounds lo hi (lastOf (before kept (getD bounds j 0))) .start) (length bounds) mostBoundaries 0
+  pub ends : tableAt spanEndsAt words
+      ≡ tableOf (λ j. listedSpan anchors bounds lo hi (lastOf (before kept (getD bounds j 0))) .end) (length bounds) mostBoundaries 0
+  pub whole : length words ≡ wordsLong
 
 -- those of a stage
 abbrev pub StageWords : Phrase → Stage → ℕ → ℕ → List ℕ → Type 0
@@ -96,15 +97,15 @@ StageWords phrase stage lo hi words = Worded (kept phrase stage) (stage .anchors
 -- and its figures
 pub record Figured (phrase : Phrase) (stage : Stage) (figures : List Float) : Type 0 where
   pub fills : Fills (phrase .costs) (phrase .mask) (keptIn (phrase .mask) 0 (phrase .nuclei .anchors)) (stage .boundaries)
-      (tableAt 0 figures) (tableAt 1 figures) (tableAt 2 figures)
-  pub timed : take 75 (drop (3 * most) figures) ≡ durationsOf stage
-  pub whole : length figures ≡ 267
+      (tableAt startsAt figures) (tableAt gapsAt figures) (tableAt stopsAt figures)
+  pub timed : durationsIn figures ≡ durationsOf stage
+  pub whole : length figures ≡ figuresLong
 
 -- What is lent of a stage to the search of every candidate, each entry fixed: its tables, and among them the two edges of the span of the
 -- last kept anchor before each boundary.
 pub record Prepared (phrase : Phrase) (stage : Stage) (lo hi : ℕ) (words : List ℕ) (figures : List Float) : Type 0 where
-  pub worded : length words ≡ 482
-  pub figured : length figures ≡ 267
+  pub worded : length words ≡ wordsLong
+  pub figured : length figures ≡ figuresLong
   pub tables : TablesOf phrase stage (tablesIn (length (stage .boundaries)) words figures)
-  pub starts : tableAt 5 words ≡ tableOf (λ j. spanBefore phrase stage lo hi j .start) (length (stage .boundaries)) most 0
-  pub ends : tableAt 6 words ≡ tableOf (λ j. spanBefore phrase stage lo hi j .end) (length (stage .boundaries)) most 0
+  pub starts : tableAt spanStartsAt words ≡ tableOf (λ j. spanBefore phrase stage lo hi j .start) (length (stage .boundaries)) mostBoundaries 0
+  pub ends : tableAt spanEndsAt words ≡ tableOf (λ j. spanBefore phrase stage lo hi j .end) (length (stage .boundaries)) mostBoundaries 0

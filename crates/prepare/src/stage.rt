@@ -1,10 +1,16 @@
 // One stage of an accepted record, laid into two lent lists: the tables of its search, and the spans of its kept anchors.
 
+use limits::capacity::ANCHOR_ROOM;
+use limits::capacity::MOST_ANCHORS;
+use limits::capacity::MOST_BOUNDARIES;
+use limits::capacity::MOST_EDGES;
+use limits::common::ABSENT;
+use limits::common::DURATIONS;
+use limits::common::SHORTEST_UNIT;
 use reading::read;
 use record::layout::Layout;
 use record::read::Which;
 use spans::walk::spans_ascending;
-use stages::anchors::BEYOND;
 use stages::anchors::place_anchors;
 use stages::filler::lay_filler;
 use stages::lists::DURATION;
@@ -14,14 +20,16 @@ use stages::lists::SPAN_END;
 use stages::lists::SPAN_START;
 use stages::search::lay_search;
 ghost use mathlib.Core.Path.{_≡_};
-ghost use Prim.Native.Nat.{_+_, _*_, _<_, _≤_, _^_};
+ghost use Prim.Native.Nat.{_+_, _<_, _≤_, _^_};
 ghost use lib.ListN.{length, replicate};
 ghost use Rattle.laws.specs.Listed.{written};
 ghost use Rattle.paths.specs.Anchors.{keptIn, kept};
 ghost use Rattle.record.specs.Meaning.{phraseOf};
-ghost use Rattle.record.specs.Accepted.{Laid};
-ghost use Rattle.record.specs.Reading.{stageOf, HasTable};
-ghost use Rattle.stages.specs.Room.{most};
+ghost use Rattle.record.specs.inner.Accepted.{Laid};
+ghost use Rattle.record.specs.inner.Reading.{stageOf, HasTable};
+ghost use Rattle.limits.specs.Capacity.{mostAnchors, mostBoundaries};
+ghost use Rattle.limits.specs.Common.{durations};
+ghost use Rattle.stages.specs.Lists.{figuresLong, spansLong, wordsLong};
 ghost use Rattle.stages.specs.Parts.{Fit, FitList};
 ghost use Rattle.stages.specs.Ranges.{entryOf};
 ghost use Rattle.prepare.specs.Sides.{firstRowIn, durationsOf, Followed, figureBefore, RowsWithin, Spans, Worded, Figured, Prepared};
@@ -74,13 +82,13 @@ fn lay_spans(
     places: &[u32],
     words: &mut [u32],
 )
-    requires { ⌜ FitList (now anchors) × Followed (now anchors) × FitList (now bounds) ⌝ }
-    requires { ⌜ RowsWithin (now rows) «first_row» (now places) (length (now bounds)) (length (now anchors)) × (now words ≡ replicate (2 * most) 0) ⌝ }
+    requires { ⌜ FitList mostAnchors (now anchors) × Followed (now anchors) × FitList mostBoundaries (now bounds) ⌝ }
+    requires { ⌜ RowsWithin (now rows) «first_row» (now places) (length (now bounds)) (length (now anchors)) × (now words ≡ replicate spansLong 0) ⌝ }
     ensures { λ _. ⌜ Spans (now (anchors .entry)) (now (bounds .entry)) «lo_edge» «hi_edge» (now (rows .entry)) «first_row» (now (places .entry)) (now (words .exit)) ⌝ }
 {
     let n = bounds.len();
-    let mut starts = [0u32; 64];
-    let mut ends = [0u32; 64];
+    let mut starts = [0u32; MOST_ANCHORS];
+    let mut ends = [0u32; MOST_ANCHORS];
     spans_ascending(anchors, bounds, lo_edge, hi_edge, &mut starts, &mut ends);
     pick_listed(
         &starts,
@@ -109,13 +117,13 @@ fn lay_words(
     hi_edge: u32,
     words: &mut [u32],
 )
-    requires { ⌜ Fit (now mask) (now bounds) × FitList (now anchors) × («first_row» + length (now anchors) < 2 ^ 32) ⌝ }
-    requires { ⌜ Followed (now anchors) × (length (now words) ≡ 482) ⌝ }
+    requires { ⌜ Fit (now mask) (now bounds) × FitList mostAnchors (now anchors) × («first_row» + length (now anchors) < 2 ^ 32) ⌝ }
+    requires { ⌜ Followed (now anchors) × (length (now words) ≡ wordsLong) ⌝ }
     ensures { λ _. ⌜ Worded (keptIn (now (mask .entry)) «first_row» (now (anchors .entry))) (now (anchors .entry)) (now (bounds .entry)) «lo_edge» «hi_edge» (now (words .exit)) ⌝ }
 {
-    let mut frames = [BEYOND; 66];
-    let mut rows = [0u32; 66];
-    let mut places = [0u32; 65];
+    let mut frames = [ABSENT; ANCHOR_ROOM];
+    let mut rows = [0u32; ANCHOR_ROOM];
+    let mut places = [0u32; MOST_EDGES];
     place_anchors(
         mask,
         anchors,
@@ -149,10 +157,10 @@ fn lay_stage_words(
     words: &mut [u32],
 )
     requires { ⌜ Laid (now bytes) at ⌝ }
-    requires { ⌜ (now bounds ≡ stageOf which (phraseOf (now bytes)) .boundaries) × (length (now words) ≡ 482) ⌝ }
+    requires { ⌜ (now bounds ≡ stageOf which (phraseOf (now bytes)) .boundaries) × (length (now words) ≡ wordsLong) ⌝ }
     ensures { λ _. ⌜ Worded (kept (phraseOf (now (bytes .entry))) (stageOf which (phraseOf (now (bytes .entry))))) (stageOf which (phraseOf (now (bytes .entry))) .anchors) (stageOf which (phraseOf (now (bytes .entry))) .boundaries) «lo_edge» «hi_edge» (now (words .exit)) ⌝ }
 {
-    let mut anchors = [0u32; 64];
+    let mut anchors = [0u32; MOST_ANCHORS];
     let a = read::anchors(bytes, at, which, &mut anchors);
     lay_words(
         read::mask(bytes, at),
@@ -168,12 +176,12 @@ fn lay_stage_words(
 fn lay_durations(bytes: &[u8], at: Layout, which: Which, out: &mut [f64])
     requires { ⌜ Laid (now bytes) at ⌝ }
     requires { ⌜ HasTable which (phraseOf (now bytes)) ⌝ }
-    requires { ⌜ length (now out) ≡ 75 ⌝ }
+    requires { ⌜ length (now out) ≡ durations ⌝ }
     ensures { λ _. ⌜ now (out .exit) ≡ durationsOf (stageOf which (phraseOf (now (bytes .entry)))) ⌝ }
 {
     let mut i = 0;
-    while i < 75 {
-        out[i] = read::duration(bytes, at, which, i + 6);
+    while i < DURATIONS {
+        out[i] = read::duration(bytes, at, which, i + SHORTEST_UNIT);
         i += 1;
     }
 }
@@ -182,10 +190,10 @@ fn lay_durations(bytes: &[u8], at: Layout, which: Which, out: &mut [f64])
 fn lay_figures(bytes: &[u8], at: Layout, which: Which, bounds: &[u32], figures: &mut [f64])
     requires { ⌜ Laid (now bytes) at ⌝ }
     requires { ⌜ HasTable which (phraseOf (now bytes)) ⌝ }
-    requires { ⌜ (now bounds ≡ stageOf which (phraseOf (now bytes)) .boundaries) × (length (now figures) ≡ 267) ⌝ }
+    requires { ⌜ (now bounds ≡ stageOf which (phraseOf (now bytes)) .boundaries) × (length (now figures) ≡ figuresLong) ⌝ }
     ensures { λ _. ⌜ Figured (phraseOf (now (bytes .entry))) (stageOf which (phraseOf (now (bytes .entry)))) (now (figures .exit)) ⌝ }
 {
-    let mut nuclei = [0u32; 64];
+    let mut nuclei = [0u32; MOST_ANCHORS];
     let n = read::anchors(bytes, at, Which::Nuclei, &mut nuclei);
     lay_filler(
         read::mask(bytes, at),
@@ -209,10 +217,10 @@ pub fn lay_stage(
 )
     requires { ⌜ Laid (now bytes) at ⌝ }
     requires { ⌜ HasTable which (phraseOf (now bytes)) ⌝ }
-    requires { ⌜ (length (now words) ≡ 482) × (length (now figures) ≡ 267) ⌝ }
+    requires { ⌜ (length (now words) ≡ wordsLong) × (length (now figures) ≡ figuresLong) ⌝ }
     ensures { λ _. ⌜ Prepared (phraseOf (now (bytes .entry))) (stageOf which (phraseOf (now (bytes .entry)))) «lo_edge» «hi_edge» (now (words .exit)) (now (figures .exit)) ⌝ }
 {
-    let mut bounds = [0u32; 64];
+    let mut bounds = [0u32; MOST_BOUNDARIES];
     let b = read::boundaries(bytes, at, which, &mut bounds);
     lay_stage_words(bytes, at, which, &bounds[..b], lo_edge, hi_edge, words);
     lay_figures(bytes, at, which, &bounds[..b], figures);

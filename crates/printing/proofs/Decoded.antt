@@ -3,27 +3,30 @@ use Prim.Native.Nat.{ℕ, _+_, _*_, _≤_}
 use mathlib.Core.Bool.{Bool, false, _||_, cond}
 use mathlib.Core.List.{List, _++_}
 use mathlib.Core.Option.{Option, none, some}
-use mathlib.Core.Path.{_≡_, refl, sym, ap, ap₂, subst₂, _∙_}
-use native.Mathlib.Nat.{zero-add}
+use mathlib.Core.Path.{_≡_, refl, sym, ap, ap₂, subst, subst₂, _∙_}
+use native.Mathlib.Nat.{zero-add, le-trans}
 use native.Mathlib.Omega.{arith}
 use borrow.Author.Tests.{le-ltb}
 use lib.ListN.{length, drop, length-map}
 use lib.Seq.{sets, sets-eq}
 use lib.Ieee.{Float}
 use Rattle.text.specs.Ascii.{ascii, decimal}
-use Rattle.text.specs.Puts.{Puts}
-use Rattle.record.specs.Edition.{edition1}
-use Rattle.record.specs.Layout.{layoutOf}
+use Rattle.text.specs.inner.Puts.{Puts}
+use Rattle.limits.specs.Capacity.{mostUnits, mostCandidates, mostCells}
+use Rattle.limits.proofs.Editions.{cells-within, words-within}
+use Rattle.record.specs.Format.{trailerBytes}
+use Rattle.record.specs.Layout.{layoutOf, limitsOf}
 use Rattle.record.specs.Conditions.{shortDesk}
 use Rattle.record.specs.Refusals.{numberOf, refusalOf, refusalWith}
 use Rattle.record.specs.Meaning.{phraseOf}
 use Rattle.record.specs.declared.refusal.Refusal.{Refusal}
 use Rattle.record.specs.declared.refusal.Refusal.the-variants.{Desk}
+use Rattle.record.proofs.Accepted.{own-moderate, laid-long}
 use Rattle.record.proofs.Answers.{refused-first, desk-last}
 use Rattle.entries.specs.Entry.{Entry}
-use Rattle.entries.specs.Words.{entryWords, allWords}
-use Rattle.entries.specs.EntryFrom.{mostUnits}
-use Rattle.entries.specs.Placing.{Fit, All}
+use Rattle.limits.specs.Sizes.{entryWords, workCells}
+use Rattle.entries.specs.Words.{allWords}
+use Rattle.entries.specs.inner.Placing.{Fit, All}
 use Rattle.entries.specs.Ranking.{ranked}
 use Rattle.entries.proofs.Ranks.{all-ranked}
 use Rattle.entries.proofs.RankedLength.{length-ranked}
@@ -35,23 +38,24 @@ use Rattle.decoding.proofs.Calls.{candidates-counted}
 use Rattle.decoding.proofs.Bounded.{phrase-fit}
 use Rattle.decoding.proofs.Demands.{entries-fit}
 use Rattle.printing.specs.Listing.{decodedText, refusedText, listingFor, listingOf}
-use Rattle.printing.specs.InWords.{allLinesIn, decodedIn, AllWhole}
+use Rattle.printing.specs.inner.InWords.{allLinesIn, decodedIn, AllWhole}
 use Rattle.printing.specs.Rendered.{listingBytes, Rendered}
 use Rattle.printing.proofs.EntryLines.{all-lines-in, all-whole}
 
 -- Room for the entries of every record: no call with it is refused by 11.
 pub record Ample (best back words : ℕ) : Type 0 where
-  pub values : edition1 .«work_cells» ≤ best
-  pub marks : edition1 .«work_cells» ≤ back
-  pub entries : edition1 .candidates * edition1 .«entry_words» ≤ words
+  pub values : mostCells ≤ best
+  pub marks : mostCells ≤ back
+  pub entries : mostCandidates * entryWords mostUnits ≤ words
 
 module _ (bytes : List ℕ) {best back words : ℕ} (ample : Ample best back words) where
-  long-enough : refusalOf bytes ≡ none → shortDesk edition1 (layoutOf bytes .candidates .count) best back words ≡ false
+  long-enough : refusalOf bytes ≡ none → shortDesk (limitsOf bytes) (layoutOf bytes .candidates .count) best back words ≡ false
   long-enough fine =
-      let few = phrase-fit bytes fine .fewCandidates in
+      let few = subst (λ (n : ℕ). n ≤ limitsOf bytes .candidates) (candidates-counted bytes) (phrase-fit bytes fine .fewCandidates) in
+      let cells = cells-within (own-moderate bytes) in
       ap₂ _||_
-      (ap₂ _||_ (le-ltb best (edition1 .«work_cells») (ample .values)) (le-ltb back (edition1 .«work_cells») (ample .marks)))
-      (le-ltb words (layoutOf bytes .candidates .count * edition1 .«entry_words») (omega (arith, candidates-counted bytes, ample .entries)))
+      (ap₂ _||_ (le-ltb best (workCells (limitsOf bytes)) (le-trans cells (ample .values))) (le-ltb back (workCells (limitsOf bytes)) (le-trans cells (ample .marks))))
+      (le-ltb words (layoutOf bytes .candidates .count * entryWords (limitsOf bytes .units)) (le-trans (words-within (own-moderate bytes) few) (ample .entries)))
 
   -- so what refuses a call is what refuses the record
   own-refusal : refusalWith bytes best back words ≡ refusalOf bytes
@@ -65,28 +69,31 @@ module _ (bytes : List ℕ) {best back words : ℕ} (ample : Ample best back wor
 
 -- the ranked entries of an accepted record can be written, and there are M
 module _ (bytes : List ℕ) (fine : refusalOf bytes ≡ none) where
+  abbrev most : ℕ
+  most = limitsOf bytes .units
+
   abbrev entries : List Entry
   entries = ranked (entriesOf (phraseOf bytes))
 
-  fit : All (Fit mostUnits) entries
-  fit = all-ranked (Fit mostUnits) (entries-fit bytes fine)
+  fit : All (Fit most) entries
+  fit = all-ranked (Fit most) (entries-fit bytes fine)
 
   counted : length entries ≡ length (phraseOf bytes .candidates)
   counted = length-ranked (entriesOf (phraseOf bytes)) ∙ length-map (phraseOf bytes .candidates) (entryOf (phraseOf bytes))
 
   module _ (count : ℕ) (same : count ≡ length (phraseOf bytes .candidates))
-      {words : List ℕ} (rest : List ℕ) (written : words ≡ allWords mostUnits entries ++ rest) where
+      {words : List ℕ} (rest : List ℕ) (written : words ≡ allWords most entries ++ rest) where
     as-many : length entries ≡ count
     as-many = counted ∙ sym same
 
-    entries-whole : AllWhole mostUnits count words
-    entries-whole = subst₂ (AllWhole mostUnits) as-many (sym written) (all-whole mostUnits fit rest)
+    entries-whole : AllWhole most count words
+    entries-whole = subst₂ (AllWhole most) as-many (sym written) (all-whole most fit rest)
 
-    entries-listed : decodedIn (entryWords mostUnits) count words ≡ listingOf bytes
+    entries-listed : decodedIn (entryWords most) count words ≡ listingOf bytes
     unfolding decodedIn listingOf decodedText
     entries-listed =
         ap (λ (lines : List ℕ). ascii "decoded " ++ decimal count ++ ascii "\n" ++ lines)
-        (ap₂ (allLinesIn (entryWords mostUnits)) (sym as-many) written ∙ all-lines-in mostUnits fit rest)
+        (ap₂ (allLinesIn (entryWords most)) (sym as-many) written ∙ all-lines-in most fit rest)
         ∙ ap (λ (m : ℕ). decodedText m entries) same
         ∙ sym (ap (λ (o : Option Refusal). listingFor o (phraseOf bytes)) fine)
 
@@ -94,9 +101,10 @@ module _ (bytes : List ℕ) (fine : refusalOf bytes ≡ none) where
 
 -- an accepted call's words are those of the record's entries
 pub record Listed (bytes words : List ℕ) (count : ℕ) : Type 0 where
-  pub few : count ≤ edition1 .candidates
-  pub whole : AllWhole mostUnits count words
-  pub lines : decodedIn (entryWords mostUnits) count words ≡ listingOf bytes
+  pub long : trailerBytes ≤ length bytes
+  pub few : count ≤ mostCandidates
+  pub whole : AllWhole (limitsOf bytes .units) count words
+  pub lines : decodedIn (entryWords (limitsOf bytes .units)) count words ≡ listingOf bytes
 
 module _ {bytes : List ℕ} {best : List Float} {back words : List ℕ} {answer : Decoded} {best′ : List Float} {back′ words′ : List ℕ}
     (ample : Ample (length best) (length back) (length words)) (decodes : Decodes bytes best back words answer best′ back′ words′) where
@@ -116,7 +124,8 @@ module _ {bytes : List ℕ} {best : List Float} {back words : List ℕ} {answer 
           let same : count ≡ length (phraseOf bytes .candidates) = cc (said none fine e) in
           let written = decodes .accepts (own-refusal bytes ample ∙ fine) .words in
           record {
-            few = omega (arith, phrase-fit bytes fine .fewCandidates);
+            long = laid-long {at = layoutOf bytes} (record { accepted = fine; layout = refl });
+            few = omega (arith, phrase-fit bytes fine .fewCandidates, own-moderate bytes .candidates);
             whole = entries-whole bytes fine count same _ written;
             lines = entries-listed bytes fine count same _ written;
           }
@@ -135,7 +144,7 @@ module _ {bytes : List ℕ} {best : List Float} {back words : List ℕ} {answer 
 
 -- a listing at the front of a buffer with room for every listing
 pub rendered : {most : ℕ} {bytes out out′ text : List ℕ} {next : ℕ}
-    → text ≡ listingOf bytes → most ≤ listingBytes edition1 → listingBytes edition1 ≤ length out
+    → text ≡ listingOf bytes → most ≤ listingBytes → listingBytes ≤ length out
     → Puts most out 0 text out′ next → Rendered bytes out next out′
 rendered {bytes = bytes} {out = out} same few room puts =
     let long = ap length same in

@@ -7,11 +7,12 @@ use lib.ListN.{length, drop, replicate, length-append}
 use lib.Seq.{drop-at}
 use lib.Ieee.{binary32, toBits}
 use Rattle.entries.specs.Entry.{ReportedUnit, Entry}
-use Rattle.entries.specs.Words.{unitWords, entryWords, wordsOf, allWords}
-use Rattle.entries.specs.Placing.{Fit, All}
+use Rattle.limits.specs.Sizes.{entryWords}
+use Rattle.entries.specs.Words.{unitWords, wordsOf, allWords}
+use Rattle.entries.specs.inner.Placing.{Fit, All}
 use Rattle.entries.proofs.EntryWords.{length-wordsOf}
 use Rattle.printing.specs.Listing.{headLine, unitLines, entryLines, allLines}
-use Rattle.printing.specs.InWords.{unitsIn, linesIn, allLinesIn, Whole, AllWhole, none, more}
+use Rattle.printing.specs.inner.InWords.{unitsIn, linesIn, allLinesIn, Whole, AllWhole, none, more}
 
 units-in : (units : List ReportedUnit) (rest : List ℕ) → unitsIn (length units) (unitWords units ++ rest) ≡ units
 unfolding unitsIn unitWords

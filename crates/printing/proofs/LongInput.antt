@@ -9,12 +9,12 @@ use borrow.Author.Tests.{lt-ltb}
 use lib.Dec.{ltb}
 use lib.ListN.{length, take}
 use lib.Seq.{take-all, length-take-le}
+use Rattle.laws.specs.Rules.{firstOf}
 use Rattle.laws.proofs.Choices.{taken}
 use Rattle.laws.proofs.Numbers.{by-order}
 use Rattle.text.specs.Ascii.{ascii, decimal}
-use Rattle.record.specs.Layout.{trailerBytes}
-use Rattle.record.specs.Conditions.{recordBytes}
-use Rattle.record.specs.Refusals.{firstOf, firstRules, ownRules, refusalOf}
+use Rattle.record.specs.Format.{trailerBytes, recordBytes}
+use Rattle.record.specs.Refusals.{trailerRules, firstRules, ownRules, refusalOf}
 use Rattle.record.specs.Meaning.{phraseOf}
 use Rattle.record.specs.declared.refusal.Refusal.{Refusal}
 use Rattle.record.specs.declared.refusal.Refusal.the-variants.{Stub}
@@ -25,7 +25,7 @@ or-true true = refl
 or-true false = refl
 
 too-long : (bytes : List ℕ) → recordBytes < length bytes → refusalOf bytes ≡ some Stub
-unfolding refusalOf ownRules firstRules firstOf
+unfolding refusalOf ownRules firstRules trailerRules firstOf
 too-long bytes long =
     let short = ltb (length bytes) trailerBytes in
     sym (taken _ (ap (λ (over : Bool). short || over) (lt-ltb recordBytes (length bytes) long) ∙ or-true short))

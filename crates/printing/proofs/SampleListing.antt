@@ -11,6 +11,7 @@ use Rattle.text.specs.Ascii.{ascii, decimal, hexadecimal}
 use Rattle.ieee.specs.Convert.{clamped, narrowed, clampedLog}
 use Rattle.ieee.specs.TotalOrder.{totalBefore}
 use Rattle.record.specs.Bytes.{u32At, u64At}
+use Rattle.limits.specs.Edition.{numbersOf}
 use Rattle.record.specs.Layout.{trailerOf, layoutFrom, layoutOf}
 use Rattle.record.specs.Meaning.{phraseOf}
 use Rattle.record.specs.declared.refusal.Refusal.{Refusal}
@@ -40,7 +41,7 @@ sampleLines =
 
 -- To name it on an `unfolding` line opens all that an accepted record's listing is worked out by.
 worked : List ℕ → List ℕ
-unfolding decodedText decimal hexadecimal entryBy chosen hasNucleus keptIn cost admitsUnit unitValueOf add sub mul neg ofInt lt isNan clampedLog clamped narrowed reportedIn zipWith unitsOf highestBelow lowestFrom rankOnto totalBefore toBits phraseOf layoutOf layoutFrom trailerOf u32At u64At listed ofBits ofFields trailingZeros
+unfolding decodedText decimal hexadecimal entryBy chosen hasNucleus keptIn cost admitsUnit unitValueOf add sub mul neg ofInt lt isNan clampedLog clamped narrowed reportedIn zipWith unitsOf highestBelow lowestFrom rankOnto totalBefore toBits phraseOf layoutOf layoutFrom trailerOf u32At u64At listed ofBits ofFields trailingZeros numbersOf
 worked bytes = decodedText (length (phraseOf bytes .candidates)) (ranked (entriesOf (phraseOf bytes)))
 
 sample-decoded : decodedText (length (phraseOf sample .candidates)) (ranked (entriesOf (phraseOf sample))) ≡ sampleLines

@@ -8,9 +8,9 @@ use lib.ListN.{length, getD, take, drop, length-drop}
 use lib.Seq.{take-all, getD-drop, drop-drop}
 use Rattle.laws.proofs.Numbers.{next-row}
 use Rattle.entries.specs.Entry.{ReportedUnit}
-use Rattle.entries.specs.Words.{entryWords}
+use Rattle.limits.specs.Sizes.{entryWords}
 use Rattle.printing.specs.Listing.{unitLine, unitLines}
-use Rattle.printing.specs.InWords.{unitsIn, linesIn, allLinesIn, Whole, AllWhole, more}
+use Rattle.printing.specs.inner.InWords.{unitsIn, linesIn, allLinesIn, Whole, AllWhole, more}
 
 -- a part of a slice up to its end is what is left of it
 pub part-from : (from : ℕ) (words : List ℕ) → take (length words - from) (drop from words) ≡ drop from words

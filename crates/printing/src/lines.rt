@@ -1,30 +1,26 @@
 // The lines of the listing (document 01, "Sample phrase"), from the words of entries, written into a slice of bytes from a place on. Each
 // function answers the place after what it wrote.
 
-use entries::words::ENTRY_WORDS;
+use limits::common::ABSENT;
+use limits::edition::HEAD_WORDS;
+use limits::edition::UNIT_WORDS;
 use text::put;
 use text::put_decimal;
 use text::put_hexadecimal;
 ghost use Prim.Native.Nat.{_+_, _*_, _≤_};
 ghost use lib.ListN.{length};
-ghost use Rattle.text.specs.Puts.{Puts};
-ghost use Rattle.entries.specs.Words.{entryWords};
-ghost use Rattle.entries.specs.EntryFrom.{mostUnits};
+ghost use Rattle.text.specs.inner.Puts.{Puts};
+ghost use Rattle.limits.specs.Sizes.{entryWords};
+ghost use Rattle.limits.specs.Capacity.{mostUnits};
 ghost use Rattle.printing.specs.Listing.{rowText, unitLine, unitLines, passWord, headLine};
-ghost use Rattle.printing.specs.InWords.{nameText, unitsIn, linesIn, allLinesIn, Whole, AllWhole};
+ghost use Rattle.printing.specs.inner.InWords.{nameText, unitsOf, unitsIn, linesIn, allLinesIn, AllWhole};
 ghost use Rattle.printing.specs.Rendered.{headLineBytes, unitLineBytes, entryBytes};
-
-// Stands for a unit's row where it has no anchor.
-const NO_ROW: u32 = 4294967295;
-
-// Id, llr, pass and count of units stand before the units of an entry.
-const HEAD_WORDS: usize = 4;
 
 fn put_row(out: &mut [u8], at: usize, row: u32) -> usize
     requires { ⌜ at + 10 ≤ length (now out) ⌝ }
     ensures { λ r. ⌜ Puts 10 (now (out .entry)) at (rowText row) (now (out .exit)) r ⌝ }
 {
-    if row == NO_ROW {
+    if row == ABSENT {
         put(out, at, b"-")
     } else {
         put_decimal(out, at, row)
@@ -90,7 +86,7 @@ fn put_units(out: &mut [u8], at: usize, words: &[u32], count: usize) -> usize
     let mut next = at;
     let mut i = 0;
     while i < count {
-        let from = 3 * i;
+        let from = UNIT_WORDS * i;
         let start = words[from];
         let end = words[from + 1];
         let row = words[from + 2];
@@ -102,25 +98,32 @@ fn put_units(out: &mut [u8], at: usize, words: &[u32], count: usize) -> usize
 
 // The entry whose words stand at the front.
 fn put_entry(out: &mut [u8], at: usize, words: &[u32]) -> usize
-    requires { ⌜ at + entryBytes mostUnits ≤ length (now out) ⌝ }
-    requires { ⌜ Whole mostUnits (now words) ⌝ }
-    ensures { λ r. ⌜ Puts (entryBytes mostUnits) (now (out .entry)) at (linesIn (now (words .entry))) (now (out .exit)) r ⌝ }
+    requires { ⌜ at + entryBytes (unitsOf (now words)) ≤ length (now out) ⌝ }
+    requires { ⌜ entryWords (unitsOf (now words)) ≤ length (now words) ⌝ }
+    ensures { λ r. ⌜ Puts (entryBytes (unitsOf (now (words .entry)))) (now (out .entry)) at (linesIn (now (words .entry))) (now (out .exit)) r ⌝ }
 {
     let count = words[3];
     let to_units = put_head(out, at, words[0], words[1], words[2], count);
     put_units(out, to_units, &words[HEAD_WORDS..], count as usize)
 }
 
-// So many entries from the front on.
-pub(crate) fn put_entries(out: &mut [u8], at: usize, words: &[u32], count: usize) -> usize
-    requires { ⌜ at + entryBytes mostUnits * count ≤ length (now out) ⌝ }
-    requires { ⌜ AllWhole mostUnits count (now words) ⌝ }
-    ensures { λ r. ⌜ Puts (entryBytes mostUnits * count) (now (out .entry)) at (allLinesIn (entryWords mostUnits) count (now (words .entry))) (now (out .exit)) r ⌝ }
+// So many entries from the front on, each with room for `most` units.
+pub(crate) fn put_entries(
+    out: &mut [u8],
+    at: usize,
+    words: &[u32],
+    most: usize,
+    count: usize,
+) -> usize
+    requires { ⌜ (most ≤ mostUnits) × (at + entryBytes mostUnits * count ≤ length (now out)) ⌝ }
+    requires { ⌜ AllWhole most count (now words) ⌝ }
+    ensures { λ r. ⌜ Puts (entryBytes mostUnits * count) (now (out .entry)) at (allLinesIn (entryWords most) count (now (words .entry))) (now (out .exit)) r ⌝ }
 {
+    let size = HEAD_WORDS + UNIT_WORDS * most;
     let mut next = at;
     let mut i = 0;
     while i < count {
-        let from = i * ENTRY_WORDS;
+        let from = i * size;
         next = put_entry(out, next, &words[from..]);
         i += 1;
     }

@@ -4,3 +4,4 @@ mod Gaps
 pub mod Sorted
 pub mod Places
 pub mod Examples
+mod OneOutcome

@@ -13,8 +13,8 @@ use Rattle.phrase.specs.Phrase.{Phrase}
 use Rattle.record.specs.Bytes.{u32At}
 use Rattle.record.specs.Conditions.{f32At}
 use Rattle.record.specs.Meaning.{phraseAt, phraseOf}
-use Rattle.record.specs.Accepted.{Laid}
-use Rattle.record.specs.Reading.{rowStart, ScoreRow}
+use Rattle.record.specs.inner.Accepted.{Laid}
+use Rattle.record.specs.inner.Reading.{rowStart, ScoreRow}
 use Rattle.record.specs.declared.layout.Layout.{Layout}
 use Rattle.record.specs.declared.read.Which.the-variants.{Nuclei, Count}
 use Rattle.record.proofs.Entries.{entry-within}

@@ -5,7 +5,7 @@ use mathlib.Core.Path.{_≡_, sym, ap, subst⁻¹, _∙_}
 use lib.ListN.{length}
 use Rattle.laws.proofs.Listed.{length-listed}
 use Rattle.record.specs.Meaning.{framesAt}
-use Rattle.record.specs.Reading.{over, Copied}
+use Rattle.record.specs.inner.Reading.{over, Copied}
 use Rattle.record.specs.declared.layout.Section.{Section}
 
 module _ (bytes : List ℕ) {s there : Section} {xs : List ℕ} (is : s ≡ there) (holds : framesAt bytes there ≡ xs) where

@@ -1,14 +1,22 @@
 // Readers of an accepted record, for those that decode it.
 
-use candidates::column_at;
-use candidates::id_at;
-use candidates::units_at;
+use fields::column_at;
+use fields::id_at;
+use fields::units_at;
+use limits::common::ABSENT;
+use limits::common::SHORTEST_UNIT;
+use limits::edition::limits_of;
 use phrase::costs::Costs;
 use record::bytes::u32_at;
 use record::bytes::u64_at;
+use record::format::FIRST_TABLE_AT;
+use record::format::INSERTION_AT;
+use record::format::SECOND_TABLE_AT;
+use record::format::SPEECH_END_AT;
+use record::format::SPEECH_START_AT;
+use record::format::UNVOICED_AT;
 use record::layout::Layout;
 use record::layout::Section;
-use record::limits::edition_1;
 use record::read::Edges;
 use record::read::Which;
 ghost use mathlib.Core.Bool.{not};
@@ -17,10 +25,12 @@ ghost use Prim.Native.Nat.{_+_, _*_, _^_, _≤_, _<_};
 ghost use lib.Dec.{T};
 ghost use lib.ListN.{length, getD, drop};
 ghost use lib.Ieee.{isNan};
-ghost use Rattle.record.specs.Conditions.{f32At, shortest, longest};
+ghost use Rattle.limits.specs.Common.{shortestUnit, longestUnit};
+ghost use Rattle.record.specs.Conditions.{f32At};
+ghost use Rattle.record.specs.Format.{costsBytes};
 ghost use Rattle.record.specs.Meaning.{framesAt, phraseOf};
-ghost use Rattle.record.specs.Accepted.{Laid};
-ghost use Rattle.record.specs.Reading.{stageOf, anchorSection, boundarySection, tableStart, HasTable, edgesOf, candidateOf, over, Copied, IsFloat, rowStart, ScoreRow};
+ghost use Rattle.record.specs.inner.Accepted.{Laid};
+ghost use Rattle.record.specs.inner.Reading.{stageOf, anchorSection, boundarySection, tableStart, HasTable, edgesOf, candidateOf, over, Copied, IsFloat, rowStart, ScoreRow};
 
 // The mask, as the part of the record that it is.
 pub fn mask(bytes: &[u8], at: Layout) -> &[u8]
@@ -91,8 +101,8 @@ pub fn costs(bytes: &[u8], at: Layout) -> Costs
     let start = at.costs;
     Costs {
         per_frame: f64::from_bits(u64_at(bytes, start)),
-        insertion_llr: f64::from_bits(u64_at(bytes, start + 8)),
-        unvoiced: f32::from_bits(u32_at(bytes, start + 16)),
+        insertion_llr: f64::from_bits(u64_at(bytes, start + INSERTION_AT)),
+        unvoiced: f32::from_bits(u32_at(bytes, start + UNVOICED_AT)),
     }
 }
 
@@ -100,9 +110,9 @@ pub fn speech(bytes: &[u8], at: Layout) -> Edges
     requires { ⌜ Laid (now bytes) at ⌝ }
     ensures { λ r. ⌜ edgesOf r ≡ phraseOf (now (bytes .entry)) .speech ⌝ }
 {
-    let start = u32_at(bytes, at.costs + 20);
-    let end = u32_at(bytes, at.costs + 24);
-    if (start == 4294967295) & (end == 4294967295) {
+    let start = u32_at(bytes, at.costs + SPEECH_START_AT);
+    let end = u32_at(bytes, at.costs + SPEECH_END_AT);
+    if (start == ABSENT) & (end == ABSENT) {
         Edges::Silent
     } else {
         Edges::Spoken(start, end)
@@ -114,7 +124,7 @@ pub fn id(bytes: &[u8], at: Layout, i: usize) -> u32
     requires { ⌜ i < length (phraseOf (now bytes) .candidates) ⌝ }
     ensures { λ r. ⌜ r ≡ candidateOf (phraseOf (now (bytes .entry))) i .id ⌝ }
 {
-    id_at(bytes, edition_1(), at, i)
+    id_at(bytes, limits_of(at.edition), at, i)
 }
 
 pub fn units(bytes: &[u8], at: Layout, i: usize) -> usize
@@ -122,7 +132,7 @@ pub fn units(bytes: &[u8], at: Layout, i: usize) -> usize
     requires { ⌜ i < length (phraseOf (now bytes) .candidates) ⌝ }
     ensures { λ r. ⌜ r ≡ length (candidateOf (phraseOf (now (bytes .entry))) i .columns) ⌝ }
 {
-    units_at(bytes, edition_1(), at, i)
+    units_at(bytes, limits_of(at.edition), at, i)
 }
 
 pub fn column(bytes: &[u8], at: Layout, i: usize, j: usize) -> usize
@@ -131,16 +141,16 @@ pub fn column(bytes: &[u8], at: Layout, i: usize, j: usize) -> usize
     requires { ⌜ j < length (candidateOf (phraseOf (now bytes)) i .columns) ⌝ }
     ensures { λ r. ⌜ r ≡ getD (candidateOf (phraseOf (now (bytes .entry))) i .columns) j 0 ⌝ }
 {
-    column_at(bytes, edition_1(), at, i, j)
+    column_at(bytes, limits_of(at.edition), at, i, j)
 }
 
 fn table_start(at: Layout, which: Which) -> usize
-    requires { ⌜ at .costs + 1228 < 2 ^ 64 ⌝ }
+    requires { ⌜ at .costs + costsBytes < 2 ^ 64 ⌝ }
     ensures { λ r. ⌜ r ≡ tableStart which at ⌝ }
 {
     match which {
-        Which::Nuclei => at.costs + 28,
-        Which::Count => at.costs + 628,
+        Which::Nuclei => at.costs + FIRST_TABLE_AT,
+        Which::Count => at.costs + SECOND_TABLE_AT,
     }
 }
 
@@ -148,11 +158,11 @@ fn table_start(at: Layout, which: Which) -> usize
 pub fn duration(bytes: &[u8], at: Layout, which: Which, frames: usize) -> f64
     requires { ⌜ Laid (now bytes) at ⌝ }
     requires { ⌜ HasTable which (phraseOf (now bytes)) ⌝ }
-    requires { ⌜ (shortest ≤ frames) × (frames ≤ longest) ⌝ }
+    requires { ⌜ (shortestUnit ≤ frames) × (frames ≤ longestUnit) ⌝ }
     ensures { λ r. ⌜ IsFloat (stageOf which (phraseOf (now (bytes .entry))) .duration frames) r ⌝ }
 {
     let table = table_start(at, which);
-    f64::from_bits(u64_at(bytes, table + 8 * (frames - 6)))
+    f64::from_bits(u64_at(bytes, table + 8 * (frames - SHORTEST_UNIT)))
 }
 
 // The part of the record that starts at a row of scores.

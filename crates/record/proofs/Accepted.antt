@@ -11,24 +11,27 @@ use lib.ListN.{length}
 use lib.Arith.{digits-lt}
 use Rattle.laws.proofs.Listed.{length-listed, getD-listed}
 use Rattle.laws.proofs.Numbers.{not-zero}
+use Rattle.laws.proofs.Rules.{none-exactly}
 use Rattle.laws.proofs.Choices.{neither-left, neither-right, and-fails}
 use Rattle.ieee.specs.Range.{within}
+use Rattle.limits.specs.inner.Moderate.{Moderate}
+use Rattle.limits.proofs.Editions.{moderate}
 use Rattle.phrase.specs.Phrase.{Candidate}
 use Rattle.record.specs.Bytes.{u32At, u64At}
-use Rattle.record.specs.Edition.{edition1}
-use Rattle.record.specs.Bounds.{Sized, Counted}
-use Rattle.record.specs.Layout.{trailerOf, layoutFrom, layoutOf}
-use Rattle.record.specs.Conditions.{noFrame, badList, badMask, badEdges, badTrack, speechStart, speechEnd, thousand, million, firstTable, secondTable, f32At, f64At, badScores, badTable, badCost, idAt, unitsAt, columnAt}
+use Rattle.record.specs.Format.{trailerBytes, recordBytes}
+use Rattle.record.specs.inner.Bounds.{Sized, Counted}
+use Rattle.record.specs.Layout.{trailerOf, layoutFrom, layoutOf, limitsOf, limitsAt}
+use Rattle.limits.specs.Common.{absent}
+use Rattle.record.specs.Conditions.{badList, badMask, badEdges, badTrack, speechStart, speechEnd, thousand, million, firstTable, secondTable, f32At, f64At, badScores, badTable, badCost, idAt, unitsAt, columnAt}
 use Rattle.record.specs.Refusals.{ownRules, refusalOf}
 use Rattle.record.specs.Meaning.{maskAt, framesAt, durationAt, candidateAt, phraseAt, phraseOf}
-use Rattle.record.specs.Accepted.{Laid, StageFit, CandidateFit, Fit}
-use Rattle.record.specs.declared.limits.Limits.{Limits}
+use Rattle.record.specs.inner.Accepted.{Laid, StageFit, CandidateFit, Fit}
+use Rattle.limits.specs.declared.edition.Limits.{Limits}
 use Rattle.record.specs.declared.layout.Section.{Section}
 use Rattle.record.specs.declared.layout.Layout.{Layout}
 use Rattle.record.proofs.Sizes.{sized}
 use Rattle.record.proofs.Below.{none-below}
 use Rattle.record.proofs.Entries.{units-some, units-most}
-use Rattle.record.proofs.RuleLists.{none-fails}
 use Rattle.record.proofs.Passed.{Passed, none-holds}
 use Rattle.record.proofs.Fits.{frames-fit, score-fits, cost-fits, table-fits, edges-fit}
 
@@ -135,7 +138,7 @@ module _ (l : Limits) (bytes : List ℕ) (p : Passed l bytes) where
         nuclei = stage-fit bytes (at .nuclei) (at .boundaries) _ _ _ _ (t .nuclei) (t .boundaries) (n .nuclei) (n .boundaries);
         added = stage-fit bytes (at .anchors) (at .added) _ _ _ _ (t .anchors) (t .added) (n .anchors) (n .added);
         nothingAdded = λ none. length-listed _ (at .added .count) ∙ n .nothingAdded (sym anchors ∙ none);
-        speech = λ start end e. edges-fit (eqb (speechStart bytes (at .costs)) noFrame && eqb (speechEnd bytes (at .costs)) noFrame) (speechStart bytes (at .costs)) (speechEnd bytes (at .costs)) start end (t .speech) e;
+        speech = λ start end e. edges-fit (eqb (speechStart bytes (at .costs)) absent && eqb (speechEnd bytes (at .costs)) absent) (speechStart bytes (at .costs)) (speechEnd bytes (at .costs)) start end (t .speech) e;
         someColumn = n .someColumn;
         fewColumns = n .columns;
         scores = λ row column below inside.
@@ -159,22 +162,40 @@ module _ (l : Limits) (bytes : List ℕ) (p : Passed l bytes) where
             ids-differ i j before inside (ap (λ (x : Candidate). x .id) (sym one) ∙ e ∙ ap (λ (x : Candidate). x .id) two);
       }
 
-pub laid-passed : {bytes : List ℕ} {at : Layout} → Laid bytes at → Passed edition1 bytes
+-- a layout names the edition that the trailer names
+pub layout-limits : (bytes : List ℕ) {at : Layout} → at ≡ layoutOf bytes → limitsAt at ≡ limitsOf bytes
+unfolding layoutOf layoutFrom
+layout-limits bytes laid = ap limitsAt laid
+
+pub laid-limits : {bytes : List ℕ} {at : Layout} → Laid bytes at → limitsAt at ≡ limitsOf bytes
+laid-limits {bytes} h = layout-limits bytes (h .layout)
+
+-- its numbers are moderate, whichever it is
+pub own-moderate : (bytes : List ℕ) → Moderate (limitsOf bytes)
+own-moderate bytes = moderate (trailerOf bytes .edition)
+
+pub laid-passed : {bytes : List ℕ} {at : Layout} → Laid bytes at → Passed (limitsOf bytes) bytes
 unfolding refusalOf
-laid-passed {bytes} h = none-holds edition1 bytes (none-fails bytes (ownRules edition1 bytes) (h .accepted))
+laid-passed {bytes} h = none-holds (limitsOf bytes) bytes (none-exactly (ownRules (limitsOf bytes) bytes) .0 (h .accepted))
+
+-- an accepted record has a trailer
+pub laid-long : {bytes : List ℕ} {at : Layout} → Laid bytes at → trailerBytes ≤ length bytes
+laid-long {bytes} h = ltb-false _ _ (neither-left (ltb (length bytes) trailerBytes) (ltb recordBytes (length bytes)) (laid-passed h .stub))
 
 -- the counts of an accepted record are within their limits
-pub counts : {bytes : List ℕ} {at : Layout} → Laid bytes at → Counted edition1 at
-counts {bytes} h = subst⁻¹ (Counted edition1) (h .layout) (counted edition1 bytes (sized edition1 (trailerOf bytes) (laid-passed h .size)))
+pub counts : {bytes : List ℕ} {at : Layout} → Laid bytes at → Counted (limitsAt at) at
+counts {bytes} {at} h =
+    subst⁻¹ (λ (l : Limits). Counted l at) (laid-limits h)
+    (subst⁻¹ (Counted (limitsOf bytes)) (h .layout) (counted (limitsOf bytes) bytes (sized (limitsOf bytes) (trailerOf bytes) (laid-passed h .size))))
 
 -- the law for those above: an accepted record's phrase fits
-pub fit-at : {bytes : List ℕ} {at : Layout} → Laid bytes at → Fit edition1 (at .scores .count) (phraseAt edition1 bytes at)
+pub fit-at : {bytes : List ℕ} {at : Layout} → Laid bytes at → Fit (limitsOf bytes) (at .scores .count) (phraseAt (limitsOf bytes) bytes at)
 fit-at {bytes} h =
-    subst⁻¹ (λ (x : Layout). Fit edition1 (x .scores .count) (phraseAt edition1 bytes x)) (h .layout) (phrase-fits edition1 bytes (laid-passed h))
+    subst⁻¹ (λ (x : Layout). Fit (limitsOf bytes) (x .scores .count) (phraseAt (limitsOf bytes) bytes x)) (h .layout) (phrase-fits (limitsOf bytes) bytes (laid-passed h))
 
-pub meaning : {bytes : List ℕ} {at : Layout} → Laid bytes at → phraseAt edition1 bytes at ≡ phraseOf bytes
+pub meaning : {bytes : List ℕ} {at : Layout} → Laid bytes at → phraseAt (limitsOf bytes) bytes at ≡ phraseOf bytes
 unfolding phraseOf
-meaning {bytes} h = ap (phraseAt edition1 bytes) (h .layout)
+meaning {bytes} h = ap (phraseAt (limitsOf bytes) bytes) (h .layout)
 
-pub fit : {bytes : List ℕ} {at : Layout} → Laid bytes at → Fit edition1 (at .scores .count) (phraseOf bytes)
-fit {at = at} h = subst (Fit edition1 (at .scores .count)) (meaning h) (fit-at h)
+pub fit : {bytes : List ℕ} {at : Layout} → Laid bytes at → Fit (limitsOf bytes) (at .scores .count) (phraseOf bytes)
+fit {bytes} {at} h = subst (Fit (limitsOf bytes) (at .scores .count)) (meaning h) (fit-at h)

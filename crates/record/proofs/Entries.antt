@@ -9,7 +9,7 @@ use lib.Dec.{eqb, ltb}
 use Rattle.laws.proofs.Numbers.{not-zero}
 use Rattle.laws.proofs.Choices.{neither-left, neither-right}
 use Rattle.record.specs.Conditions.{unitsAt, badUnits}
-use Rattle.record.specs.declared.limits.Limits.{Limits}
+use Rattle.limits.specs.declared.edition.Limits.{Limits}
 use Rattle.record.specs.declared.layout.Layout.{Layout}
 
 -- entry i of n, each of `size` numbers, ends within them

@@ -15,13 +15,14 @@ use lib.Ieee.Bits.{ofBits-fits}
 use Rattle.laws.proofs.Listed.{length-listed, getD-listed}
 use Rattle.laws.proofs.Choices.{neither-left, neither-right}
 use Rattle.ieee.specs.Range.{within}
-use Rattle.ieee.specs.Value.{Within}
+use Rattle.ieee.specs.inner.Value.{Within}
 use Rattle.ieee.proofs.Magnitude.{whole-within, between-within, range-within, neg-within, weaken}
 use Rattle.phrase.specs.Phrase.{silent, spoken}
 use Rattle.record.specs.Bytes.{u64At}
-use Rattle.record.specs.Conditions.{lastFrame, frameAt, lateFrame, unordered, badList, thousand, million, isDuration, shortest, longest, tableEntries, badTable}
+use Rattle.limits.specs.Common.{lastFrame, shortestUnit, longestUnit, durations}
+use Rattle.record.specs.Conditions.{frameAt, lateFrame, unordered, badList, thousand, million, isDuration, badTable}
 use Rattle.record.specs.Meaning.{framesAt, durationAt}
-use Rattle.record.specs.Accepted.{Frames}
+use Rattle.record.specs.inner.Accepted.{Frames}
 use Rattle.record.specs.declared.layout.Section.{Section}
 use Rattle.record.proofs.Figures.{million-whole}
 use Rattle.record.proofs.Below.{none-below}
@@ -75,8 +76,8 @@ duration-fits p e =
     (ofBits binary64 p) (ofBits-fits binary64 p) (held (isDuration (ofBits binary64 p)) e)
 
 -- an entry of a table by its number of frames
-pub table-fits : (bytes : List ℕ) (table : ℕ) → badTable bytes table ≡ false → (frames : ℕ) → shortest ≤ frames → frames ≤ longest → Within binary64 (durationAt bytes table frames) 1000000
-table-fits bytes table e frames least most = duration-fits (u64At bytes (table + 8 * (frames - shortest))) (none-below _ tableEntries e (frames - shortest) (omega arith))
+pub table-fits : (bytes : List ℕ) (table : ℕ) → badTable bytes table ≡ false → (frames : ℕ) → shortestUnit ≤ frames → frames ≤ longestUnit → Within binary64 (durationAt bytes table frames) 1000000
+table-fits bytes table e frames least most = duration-fits (u64At bytes (table + 8 * (frames - shortestUnit))) (none-below _ durations e (frames - shortestUnit) (omega arith))
 
 -- ---- speech
 

@@ -6,11 +6,12 @@ use mathlib.Core.Path.{_≡_, subst}
 use mathlib.Core.Logic.{⊎-elim}
 use native.Mathlib.Nat.{eq-or-lt-of-le}
 use native.Mathlib.Omega.{arith}
+use Rattle.laws.specs.theory.Each.{Each, each-more}
+use Rattle.laws.proofs.Rules.{Fails}
 use Rattle.record.specs.Layout.{trailerStart, trailerOf, layoutOf}
 use Rattle.record.specs.Conditions.{stub, otherEdition, oversized, overreaching, badTrack, badCost, bare, repeated, badUnits, badColumn}
-use Rattle.record.specs.Refusals.{firstRules, candidateRules, ownRules}
-use Rattle.record.specs.declared.limits.Limits.{Limits}
-use Rattle.record.proofs.RuleLists.{Each, each-of, Fails}
+use Rattle.record.specs.Refusals.{trailerRules, contentRules, firstRules, candidateRules, ownRules}
+use Rattle.limits.specs.declared.edition.Limits.{Limits}
 
 pub record CandidatePassed (l : Limits) (bytes : List ℕ) (i : ℕ) : Type 0 where
   pub twice : repeated l bytes (layoutOf bytes) i ≡ false
@@ -27,18 +28,18 @@ pub record Passed (l : Limits) (bytes : List ℕ) : Type 0 where
   pub bare : bare (layoutOf bytes) ≡ false
   pub candidate : (i : ℕ) → i < layoutOf bytes .candidates .count → CandidatePassed l bytes i
 
-candidates-passed : (l : Limits) (bytes : List ℕ) (i n : ℕ) → Each (Fails bytes) (candidateRules l i n) → (k : ℕ) → i ≤ k → k < i + n → CandidatePassed l bytes k
+candidates-passed : (l : Limits) (bytes : List ℕ) (i n : ℕ) → Each Fails (candidateRules l bytes i n) → (k : ℕ) → i ≤ k → k < i + n → CandidatePassed l bytes k
 unfolding candidateRules
 candidates-passed l bytes i zero fs k from to = let no : ⊥ = omega arith in absurd no
-candidates-passed l bytes i (suc n) (each-of twice (each-of units (each-of column more))) k from to =
+candidates-passed l bytes i (suc n) (each-more twice (each-more units (each-more column more))) k from to =
     ⊎-elim
     (λ (h : i ≡ k). subst (CandidatePassed l bytes) h (record { twice = twice .not-held; units = units .not-held; column = column .not-held }))
     (λ (h : i < k). candidates-passed l bytes (suc i) n more k h (omega arith))
     (eq-or-lt-of-le from)
 
-pub none-holds : (l : Limits) (bytes : List ℕ) → Each (Fails bytes) (ownRules l bytes) → Passed l bytes
-unfolding ownRules firstRules
-none-holds l bytes (each-of stub (each-of edition (each-of size (each-of reach (each-of track (each-of cost (each-of bare candidates))))))) =
+pub none-holds : (l : Limits) (bytes : List ℕ) → Each Fails (ownRules l bytes) → Passed l bytes
+unfolding ownRules firstRules trailerRules contentRules
+none-holds l bytes (each-more stub (each-more edition (each-more size (each-more reach (each-more track (each-more cost (each-more bare candidates))))))) =
     record {
       stub = stub .not-held;
       edition = edition .not-held;

@@ -5,22 +5,24 @@ use mathlib.Core.Path.{_≡_}
 use native.Mathlib.Nat.{mul-le-mul}
 use native.Mathlib.Omega.{arith}
 use borrow.Author.Tests.{ltb-false, eq-eqb}
-use lib.Dec.{eqb, ltb, lit≤}
+use lib.Dec.{eqb, ltb}
 use Rattle.laws.proofs.Numbers.{not-zero}
 use Rattle.laws.proofs.Choices.{neither-left, neither-right, and-fails}
-use Rattle.record.specs.Edition.{edition1, Moderate}
-use Rattle.record.specs.Bounds.{Sized, Reaches, Reaching, Inside, Within, CandidatesRead}
+use Rattle.limits.specs.inner.Moderate.{Moderate, mostCount}
+use Rattle.limits.specs.Capacity.{mostAnchors, mostUnits}
+use Rattle.limits.specs.Sizes.{columnsAt, candidateBytes}
+use Rattle.record.specs.inner.Bounds.{Sized, Reaches, Reaching, Inside, Within, CandidatesRead}
 use Rattle.record.specs.Layout.{layoutFrom}
 use Rattle.record.specs.Conditions.{oversized, outside, overreaching}
-use Rattle.record.specs.declared.limits.Limits.{Limits}
+use Rattle.limits.specs.declared.edition.Limits.{Limits}
 use Rattle.record.specs.declared.trailer.Trailer.{Trailer}
 
 -- the most a score section and a candidate section have in an edition of moderate numbers
-pub scores-most : {l : Limits} {t : Trailer} → Moderate l → Sized l t → (t .nuclei .count + t .anchors .count) * t .scores .count ≤ 131072 * 65536
-scores-most m s = mul-le-mul {n₂ = 131072} {m₂ = 65536} (omega arith) (omega arith)
+pub scores-most : {l : Limits} {t : Trailer} → Moderate l → Sized l t → (t .nuclei .count + t .anchors .count) * t .scores .count ≤ 2 * mostAnchors * mostCount
+scores-most m s = mul-le-mul {n₂ = 2 * mostAnchors} {m₂ = mostCount} (omega arith) (omega arith)
 
-pub candidates-most : {l : Limits} {t : Trailer} → Moderate l → Sized l t → l .«candidate_bytes» * t .candidates .count ≤ 65536 * 65536
-candidates-most m s = mul-le-mul {n₂ = 65536} {m₂ = 65536} (omega arith) (omega arith)
+pub candidates-most : {l : Limits} {t : Trailer} → Moderate l → Sized l t → candidateBytes l * t .candidates .count ≤ (columnsAt + mostUnits) * mostCount
+candidates-most m s = mul-le-mul {n₂ = columnsAt + mostUnits} {m₂ = mostCount} (omega arith) (omega arith)
 
 pub sized : (l : Limits) (t : Trailer) → oversized l t ≡ false → Sized l t
 unfolding oversized
@@ -90,19 +92,4 @@ within-layout l end long t r fits =
 
 pub candidates-layout : (l : Limits) (end long : ℕ) (t : Trailer) → Moderate l → Reaching l end t → end ≤ long → CandidatesRead l long (layoutFrom end t)
 unfolding layoutFrom
-candidates-layout l end long t m r fits = record { section = ends (r .candidates) fits; entry = m .entry }
-
-pub moderate : Moderate edition1
-moderate =
-    record {
-      frames = lit≤ tt;
-      nuclei = lit≤ tt;
-      boundaries = lit≤ tt;
-      anchors = lit≤ tt;
-      columns = lit≤ tt;
-      candidates = lit≤ tt;
-      units = lit≤ tt;
-      «candidate_bytes» = lit≤ tt;
-      «entry_words» = lit≤ tt;
-      entry = lit≤ tt;
-    }
+candidates-layout l end long t m r fits = record { moderate = m; section = ends (r .candidates) fits }

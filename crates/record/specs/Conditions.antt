@@ -7,11 +7,13 @@ use lib.ListN.{length}
 use lib.Dec.{ltb, leb, eqb}
 use lib.IntN.{pos}
 use lib.Ieee.{Float, binary32, binary64, neg, ofBits, ofInt}
+use Rattle.limits.specs.Sizes.{countAt, columnsAt, candidateBytes, entryWords, workCells}
 use Rattle.record.specs.Bytes.{byteAt, u32At, u64At}
 use Rattle.record.specs.Below.{anyBelow}
 use Rattle.ieee.specs.Range.{between, within}
-use Rattle.record.specs.Layout.{trailerBytes, listBytes, scoreBytes, costsBytes}
-use Rattle.record.specs.declared.limits.Limits.{Limits}
+use Rattle.limits.specs.Common.{lastFrame, absent, durations}
+use Rattle.record.specs.Format.{trailerBytes, recordBytes, listBytes, scoreBytes, costsBytes, insertionAt, unvoicedAt, speechStartAt, speechEndAt, firstTableAt, secondTableAt}
+use Rattle.limits.specs.declared.edition.Limits.{Limits}
 use Rattle.record.specs.declared.trailer.Trailer.{Trailer}
 use Rattle.record.specs.declared.layout.Section.{Section}
 use Rattle.record.specs.declared.layout.Layout.{Layout}
@@ -19,9 +21,6 @@ use Rattle.record.specs.declared.layout.Layout.{Layout}
 -- ---- 1 to 4: size, edition, counts and pointers
 
 -- 1, stub: "record under 64 or over 65,536 bytes"
-abbrev pub recordBytes : ℕ
-recordBytes = 65536
-
 abbrev pub stub : List ℕ → Bool
 stub bytes = ltb (length bytes) trailerBytes || ltb recordBytes (length bytes)
 
@@ -54,13 +53,10 @@ overreaching l end t =
     || outside end (listBytes (t .anchors .count)) (t .anchors .back)
     || outside end (listBytes (t .added .count)) (t .added .back)
     || outside end (scoreBytes (t .nuclei .count) (t .anchors .count) (t .scores .count)) (t .scores .back)
-    || outside end (l .«candidate_bytes» * t .candidates .count) (t .candidates .back)
+    || outside end (candidateBytes l * t .candidates .count) (t .candidates .back)
     || outside end costsBytes (t .costs)
 
 -- ---- 5, track: "mask byte above 1; list not strictly increasing; frame above 4,095; bad speech edges"
-
-abbrev pub lastFrame : ℕ
-lastFrame = 4095
 
 abbrev pub badMask : List ℕ → Section → Bool
 badMask bytes s = anyBelow (λ i. ltb 1 (byteAt bytes (s .start + i))) (s .count)
@@ -79,17 +75,14 @@ abbrev pub badList : List ℕ → Section → Bool
 badList bytes s = lateFrame bytes s || unordered bytes s
 
 -- "u32 speech start and end (both 4,294,967,295 for no speech, else start ≤ end ≤ 4,095)"
-abbrev pub noFrame : ℕ
-noFrame = 4294967295
-
 abbrev pub speechStart : List ℕ → ℕ → ℕ
-speechStart bytes costs = u32At bytes (costs + 20)
+speechStart bytes costs = u32At bytes (costs + speechStartAt)
 
 abbrev pub speechEnd : List ℕ → ℕ → ℕ
-speechEnd bytes costs = u32At bytes (costs + 24)
+speechEnd bytes costs = u32At bytes (costs + speechEndAt)
 
 abbrev pub badEdges : ℕ → ℕ → Bool
-badEdges start end = not (eqb start noFrame && eqb end noFrame) && (ltb end start || ltb lastFrame end)
+badEdges start end = not (eqb start absent && eqb end absent) && (ltb end start || ltb lastFrame end)
 
 unfoldable pub badTrack : List ℕ → Layout → Bool
 badTrack bytes at =
@@ -121,30 +114,21 @@ badScores bytes start entries = anyBelow (λ i. not (within million (f32At bytes
 -- "f64 per_frame and insertion_llr (each within ±1,000); f32 unvoiced score (±1,000,000)"
 abbrev pub badFigures : List ℕ → ℕ → Bool
 badFigures bytes costs =
-    not (within thousand (f64At bytes costs)) || not (within thousand (f64At bytes (costs + 8))) || not (within million (f32At bytes (costs + 16)))
+    not (within thousand (f64At bytes costs)) || not (within thousand (f64At bytes (costs + insertionAt))) || not (within million (f32At bytes (costs + unvoicedAt)))
 
 -- "two duration tables of 75 f64 for 6 to 80 frames, each entry from −1,000,000 to 0 (either zero)". A zero is `ofInt binary64 (pos 0)`.
-abbrev pub shortest : ℕ
-shortest = 6
-
-abbrev pub longest : ℕ
-longest = 80
-
-abbrev pub tableEntries : ℕ
-tableEntries = 75
-
--- where the two tables start in the record
+-- Where the two tables start in the record:
 abbrev pub firstTable : ℕ → ℕ
-firstTable costs = costs + 28
+firstTable costs = costs + firstTableAt
 
 abbrev pub secondTable : ℕ → ℕ
-secondTable costs = costs + 628
+secondTable costs = costs + secondTableAt
 
 abbrev pub isDuration : Float → Bool
 isDuration = between (neg million) (ofInt binary64 (pos 0))
 
 abbrev pub badTable : List ℕ → ℕ → Bool
-badTable bytes table = anyBelow (λ i. not (isDuration (f64At bytes (table + 8 * i)))) tableEntries
+badTable bytes table = anyBelow (λ i. not (isDuration (f64At bytes (table + 8 * i)))) durations
 
 -- "The second table belongs to the added stage and is unchecked where A = 0."
 unfoldable pub badCost : List ℕ → Layout → Bool
@@ -162,16 +146,16 @@ bare at = eqb (at .candidates .count) 0
 
 -- where candidate i stands
 abbrev pub candidateStart : Limits → Layout → ℕ → ℕ
-candidateStart l at i = at .candidates .start + l .«candidate_bytes» * i
+candidateStart l at i = at .candidates .start + candidateBytes l * i
 
 abbrev pub idAt : Limits → List ℕ → Layout → ℕ → ℕ
 idAt l bytes at i = u32At bytes (candidateStart l at i)
 
 abbrev pub unitsAt : Limits → List ℕ → Layout → ℕ → ℕ
-unitsAt l bytes at i = u32At bytes (candidateStart l at i + 4)
+unitsAt l bytes at i = u32At bytes (candidateStart l at i + countAt)
 
 abbrev pub columnAt : Limits → List ℕ → Layout → ℕ → ℕ → ℕ
-columnAt l bytes at i j = byteAt bytes (candidateStart l at i + 8 + j)
+columnAt l bytes at i j = byteAt bytes (candidateStart l at i + columnsAt + j)
 
 -- 8, twice: "id of an earlier candidate"
 abbrev pub repeated : Limits → List ℕ → Layout → ℕ → Bool
@@ -187,4 +171,4 @@ badColumn l bytes at i = anyBelow (λ j. leb (at .scores .count) (columnAt l byt
 
 -- ---- 11, desk: "a lent buffer too short". The lengths of the two work areas and of the output, in elements.
 abbrev pub shortDesk : Limits → ℕ → ℕ → ℕ → ℕ → Bool
-shortDesk l candidates best back out = ltb best (l .«work_cells») || ltb back (l .«work_cells») || ltb out (candidates * l .«entry_words»)
+shortDesk l candidates best back out = ltb best (workCells l) || ltb back (workCells l) || ltb out (candidates * entryWords (l .units))

@@ -1,17 +1,17 @@
--- The trailer's fields under names, the lengths of the sections, and where they start (document 01, "The phrase record").
+-- The trailer's fields under names, and where the sections start (document 01, "The phrase record").
 use Prim.Native.Nat.{ℕ, _+_, _-_, _*_}
 use mathlib.Core.List.{List}
 use lib.ListN.{length}
+use Rattle.limits.specs.Edition.{numbersOf}
+use Rattle.limits.specs.declared.edition.Limits.{Limits}
 use Rattle.record.specs.Bytes.{u32At}
+use Rattle.record.specs.Format.{trailerBytes}
 use Rattle.record.specs.declared.trailer.Mark.{Mark}
 use Rattle.record.specs.declared.trailer.Trailer.{Trailer}
 use Rattle.record.specs.declared.layout.Section.{Section}
 use Rattle.record.specs.declared.layout.Layout.{Layout}
 
 -- "The last 64 bytes are a trailer of sixteen u32": where it starts, which is also how many bytes stand before it.
-abbrev pub trailerBytes : ℕ
-trailerBytes = 64
-
 abbrev pub trailerStart : List ℕ → ℕ
 trailerStart bytes = length bytes - trailerBytes
 
@@ -39,18 +39,6 @@ trailerOf bytes =
       costs = word bytes 15;
     }
 
--- "The four lists: u32 frames", and the bytes of a list of n
-abbrev pub listBytes : ℕ → ℕ
-listBytes n = 4 * n
-
--- "Scores: f32, row by row, N + A rows of C columns"
-abbrev pub scoreBytes : ℕ → ℕ → ℕ → ℕ
-scoreBytes n a c = 4 * ((n + a) * c)
-
--- "Costs, 1,228 bytes"
-abbrev pub costsBytes : ℕ
-costsBytes = 1228
-
 -- "A back pointer counts bytes from the trailer's start back to the section's first byte."
 abbrev pub placed : ℕ → Mark → Section
 placed end m = record { count = m .count; start = end - m .back }
@@ -58,6 +46,7 @@ placed end m = record { count = m .count; start = end - m .back }
 unfoldable pub layoutFrom : ℕ → Trailer → Layout
 layoutFrom end t =
     record {
+      edition = t .edition;
       mask = placed end (t .mask);
       nuclei = placed end (t .nuclei);
       boundaries = placed end (t .boundaries);
@@ -71,3 +60,10 @@ layoutFrom end t =
 unfoldable pub layoutOf : List ℕ → Layout
 unfolding layoutFrom trailerOf
 layoutOf bytes = layoutFrom (trailerStart bytes) (trailerOf bytes)
+
+-- the numbers of a record's edition, which its trailer and so its layout name
+abbrev pub limitsOf : List ℕ → Limits
+limitsOf bytes = numbersOf (trailerOf bytes .edition)
+
+abbrev pub limitsAt : Layout → Limits
+limitsAt at = numbersOf (at .edition)

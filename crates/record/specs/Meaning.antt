@@ -8,10 +8,11 @@ use Rattle.laws.specs.Listed.{listed}
 use Rattle.phrase.specs.Phrase.{Phrase, Candidate, Speech, silent, spoken}
 use Rattle.phrase.specs.declared.costs.Costs.{Costs}
 use Rattle.record.specs.Bytes.{byteAt}
-use Rattle.record.specs.Edition.{edition1}
-use Rattle.record.specs.Layout.{layoutOf}
-use Rattle.record.specs.Conditions.{frameAt, noFrame, speechStart, speechEnd, f32At, f64At, shortest, firstTable, secondTable, idAt, unitsAt, columnAt}
-use Rattle.record.specs.declared.limits.Limits.{Limits}
+use Rattle.record.specs.Layout.{layoutOf, limitsOf}
+use Rattle.limits.specs.Common.{absent, shortestUnit}
+use Rattle.record.specs.Format.{insertionAt, unvoicedAt}
+use Rattle.record.specs.Conditions.{frameAt, speechStart, speechEnd, f32At, f64At, firstTable, secondTable, idAt, unitsAt, columnAt}
+use Rattle.limits.specs.declared.edition.Limits.{Limits}
 use Rattle.record.specs.declared.layout.Section.{Section}
 use Rattle.record.specs.declared.layout.Layout.{Layout}
 
@@ -25,7 +26,7 @@ framesAt bytes s = listed (frameAt bytes s) (s .count)
 
 -- "75 f64 for 6 to 80 frames": the entry for a unit of so many frames, of the table that starts there
 abbrev pub durationAt : List ℕ → ℕ → ℕ → Float
-durationAt bytes table frames = f64At bytes (table + 8 * (frames - shortest))
+durationAt bytes table frames = f64At bytes (table + 8 * (frames - shortestUnit))
 
 -- "Scores: f32, row by row"
 abbrev pub scoreAt : List ℕ → Section → ℕ → ℕ → Float
@@ -37,11 +38,11 @@ candidateAt l bytes at i = record { id = idAt l bytes at i; columns = listed (co
 
 -- "f64 per_frame and insertion_llr [..]; f32 unvoiced score"
 abbrev pub costsAt : List ℕ → ℕ → Costs
-costsAt bytes costs = record { «per_frame» = f64At bytes costs; «insertion_llr» = f64At bytes (costs + 8); unvoiced = f32At bytes (costs + 16) }
+costsAt bytes costs = record { «per_frame» = f64At bytes costs; «insertion_llr» = f64At bytes (costs + insertionAt); unvoiced = f32At bytes (costs + unvoicedAt) }
 
 -- "both 4,294,967,295 for no speech"
 abbrev pub speechOf : ℕ → ℕ → Speech
-speechOf start end = cond (eqb start noFrame && eqb end noFrame) silent (spoken start end)
+speechOf start end = cond (eqb start absent && eqb end absent) silent (spoken start end)
 
 -- What the bytes mean where the sections stand as the layout says, in an edition with these numbers. "Rows are nuclei, then anchors."
 unfoldable pub phraseAt : Limits → List ℕ → Layout → Phrase
@@ -70,4 +71,4 @@ phraseAt l bytes at =
 
 unfoldable pub phraseOf : List ℕ → Phrase
 unfolding phraseAt
-phraseOf bytes = phraseAt edition1 bytes (layoutOf bytes)
+phraseOf bytes = phraseAt (limitsOf bytes) bytes (layoutOf bytes)

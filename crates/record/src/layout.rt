@@ -6,8 +6,9 @@ pub struct Section {
     pub start: usize,
 }
 
-// `costs` is the place of the costs block, which has no count.
+// `edition` is the number that the trailer gives; `costs` is the place of the costs block, which has no count.
 pub struct Layout {
+    pub edition: usize,
     pub mask: Section,
     pub nuclei: Section,
     pub boundaries: Section,

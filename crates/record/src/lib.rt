@@ -2,8 +2,8 @@
 // code of this layer is the types that those share with the code above, and the reading of little-endian numbers.
 
 pub mod bytes;
+pub mod format;
 pub mod layout;
-pub mod limits;
 pub mod read;
 pub mod refusal;
 pub mod trailer;

@@ -8,7 +8,7 @@ use lib.Ieee.{Float, binary64, add}
 use Rattle.paths.specs.Problem.{Problem}
 use Rattle.paths.specs.Cell.{Cell, empty, held, keep, best as bestOf, carry, only}
 use Rattle.paths.specs.CellRule.{Keeping, arrival, sweep}
-use Rattle.paths.specs.Marks.{Marked, marks}
+use Rattle.paths.specs.inner.Marks.{Marked, marks}
 use Rattle.rows.specs.declared.way.Way.{Way}
 use Rattle.rows.specs.declared.way.Way.the-variants.{Unit}
 use Rattle.rows.specs.Ways.{markedBy, orLater, orEach}

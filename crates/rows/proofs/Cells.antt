@@ -10,7 +10,7 @@ use lib.ListN.{length, getD, set}
 use lib.Seq.{getD-set-same, getD-set-other}
 use borrow.Author.Tests.{le-leb, lt-leb}
 use Rattle.paths.specs.Cell.{Cell, empty, held, isHeld, keep}
-use Rattle.paths.specs.Marks.{Marked}
+use Rattle.paths.specs.inner.Marks.{Marked}
 use Rattle.rows.specs.declared.way.Way.{Way}
 use Rattle.rows.specs.declared.way.Way.the-variants.{Start, Gap, Unit}
 use Rattle.rows.specs.Ways.{wayValue, wayMark, Markable, markedBy, orLater}

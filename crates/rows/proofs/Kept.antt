@@ -3,7 +3,7 @@ use mathlib.Core.Bool.{Bool, true, false, not, cond, _&&_}
 use mathlib.Core.List.{List}
 use mathlib.Core.Logic.{_⊎_, inl, inr}
 use mathlib.Core.Path.{_≡_, refl, sym, ap, subst, _∙_}
-use Prim.Native.Nat.{ℕ, zero, suc, _+_, _-_, _*_, _≤_, _<_, _^_, max}
+use Prim.Native.Nat.{ℕ, zero, suc, _+_, _-_, _≤_, _<_, _^_, max}
 use native.Mathlib.Numerals.{add-one}
 use native.Mathlib.Omega.{arith}
 use lib.Dec.{T, leb, ltb, le→leb, lt→ltb}
@@ -18,10 +18,11 @@ use Rattle.paths.specs.declared.passes.Strictness.the-variants.{Strict, Relaxed
 use Rattle.paths.specs.Problem.{Problem}
 use Rattle.paths.specs.Cell.{Cell, empty, held, keep, carry}
 use Rattle.paths.specs.CellRule.{sweep}
-use Rattle.paths.specs.Marks.{Marked, marks}
-use Rattle.paths.specs.Ranges.{inRange, arrivesFrom}
-use Rattle.paths.specs.Units.{shortestUnit, longestUnit}
-use Rattle.stages.specs.Room.{most}
+use Rattle.paths.specs.inner.Marks.{Marked, marks}
+use Rattle.paths.specs.inner.Ranges.{inRange, arrivesFrom}
+use Rattle.limits.specs.Common.{shortestUnit, longestUnit}
+use Rattle.limits.specs.Capacity.{mostBoundaries}
+use Rattle.stages.specs.Lists.{boundsAt, lowsAt, middlesAt, highsAt, gapsAt}
 use Rattle.rows.specs.declared.way.Way.{Way}
 use Rattle.rows.specs.declared.way.Way.the-variants.{Gap, Unit}
 use Rattle.rows.specs.Ways.{Markable, markedBy, orLater, orEach}
@@ -80,28 +81,28 @@ module _ {q : Problem} {s : ℕ} {t : RowTables} {n : ℕ} (before : ℕ) (of : 
 
 -- ---- the units of a range
 
-module _ (n : ℕ) (words : List ℕ) (figures : List Float) (score : ℕ → Float) (costs : Costs) (strictness : Strictness) (lent : Lent words figures) (few : n ≤ most)
+module _ (n : ℕ) (words : List ℕ) (figures : List Float) (score : ℕ → Float) (costs : Costs) (strictness : Strictness) (lent : Lent words figures) (few : n ≤ mostBoundaries)
     (ordered : Ordered (rowTables n words figures score costs strictness) n) (j : ℕ) (within : j < n) where
   abbrev t : RowTables
   t = rowTables n words figures score costs strictness
 
   frame-is : (i : ℕ) → i < n → frameAt t i ≡ getD words i 0
-  frame-is i h = table-at 0 words i 0 (omega arith) ∙ ap (λ (at : ℕ). getD words at 0) (omega arith)
+  frame-is i h = table-at boundsAt words i 0 (omega arith) ∙ ap (λ (at : ℕ). getD words at 0) (omega arith)
 
-  pub low-is : lowAt t j ≡ getD words (64 + j) 0
-  low-is = table-at 1 words j 0 (omega arith)
+  pub low-is : lowAt t j ≡ getD words (lowsAt + j) 0
+  low-is = table-at lowsAt words j 0 (omega arith)
 
-  pub middle-is : middleAt t j ≡ getD words (2 * most + j) 0
-  middle-is = table-at 2 words j 0 (omega arith)
+  pub middle-is : middleAt t j ≡ getD words (middlesAt + j) 0
+  middle-is = table-at middlesAt words j 0 (omega arith)
 
   pub end-is : endAt t j ≡ originsTo words strictness j
   end-is = go strictness
     where
       go : (x : Strictness) → endAt (rowTables n words figures score costs x) j ≡ originsTo words x j
-      go Strict = table-at 2 words j 0 (omega arith)
-      go Relaxed = table-at 3 words j 0 (omega arith)
+      go Strict = table-at middlesAt words j 0 (omega arith)
+      go Relaxed = table-at highsAt words j 0 (omega arith)
 
-  pub middle-inside : getD words (2 * most + j) 0 ≤ originsTo words strictness j
+  pub middle-inside : getD words (middlesAt + j) 0 ≤ originsTo words strictness j
   middle-inside = omega (arith, middle-is, end-is, ordered .inside j within)
 
   module _ (best : List Float) (long : n + n ≤ length best) (low end : ℕ) (from : lowAt t j ≤ low) (to : end ≡ endAt t j) where
@@ -130,19 +131,20 @@ module _ (n : ℕ) (words : List ℕ) (figures : List Float) (score : ℕ → Fl
 
     -- the first origin whose unit holds no anchor
     abbrev middle : ℕ
-    middle = getD words (2 * most + j) 0
+    middle = getD words (middlesAt + j) 0
 
     abbrev rest : ℕ
     rest = max (low + 1) middle
 
-    pub units-markable : low < end → (voice unvoiced : Float) → Markable (unitsKept best words figures voice unvoiced j low end)
+    pub units-markable : low < end → (voice : Float) → Markable (unitsKept best words figures voice costs j low end)
     unfolding unitsKept
-    units-markable some voice unvoiced =
+    units-markable some voice =
+        let bare = costs .«unvoiced» in
         let inside = middle-inside in
         let is = end-is in
-        each-markable (unitWay best words figures (getD words j 0) unvoiced) (end - rest) rest _
-        (each-markable (unitWay best words figures (getD words j 0) (cond (ltb low middle) voice unvoiced)) (middle - (low + 1)) (low + 1) _ (way-markable (cond (ltb low middle) voice unvoiced) low some) (λ k h. way-markable (cond (ltb low middle) voice unvoiced) k (omega arith)))
-        (λ k h. way-markable unvoiced k (omega arith))
+        each-markable (unitWay best words figures (getD words j 0) bare) (end - rest) rest _
+        (each-markable (unitWay best words figures (getD words j 0) (cond (ltb low middle) voice bare)) (middle - (low + 1)) (low + 1) _ (way-markable (cond (ltb low middle) voice bare) low some) (λ k h. way-markable (cond (ltb low middle) voice bare) k (omega arith)))
+        (λ k h. way-markable bare k (omega arith))
 
     module _ {q : Problem} {s : ℕ} (before : ℕ) (of : UnitsOf q s t n) (back : List ℕ) {cells : ℕ → Cell Marked} (row : Row best back first n cells)
         (reach : ReachedFrom cells n before) (lowest : low ≡ max (lowAt t j) before) where
@@ -167,7 +169,7 @@ module _ (n : ℕ) (words : List ℕ) (figures : List Float) (score : ℕ → Fl
           }
 
       pub arrivals-kept :
-          low < end → arrivals q s cells j ≡ held (markedBy (unitsKept best words figures (score j) (costs .«unvoiced») j low end))
+          low < end → arrivals q s cells j ≡ held (markedBy (unitsKept best words figures (score j) costs j low end))
       unfolding unitsKept
       arrivals-kept some =
           let inside = middle-inside in
@@ -218,7 +220,7 @@ next-step q s cells (suc j) h =
     let is : suc j - 1 ≡ j = omega arith in
     rw is
 
-module _ (n : ℕ) (words : List ℕ) (figures : List Float) (score : ℕ → Float) (costs : Costs) (strictness : Strictness) (lent : Lent words figures) (few : n ≤ most)
+module _ (n : ℕ) (words : List ℕ) (figures : List Float) (score : ℕ → Float) (costs : Costs) (strictness : Strictness) (lent : Lent words figures) (few : n ≤ mostBoundaries)
     (ordered : Ordered (rowTables n words figures score costs strictness) n) (j : ℕ) (within : j < n) (best : List Float) (long : n + n ≤ length best)
     (before since : ℕ) (last : Float) (begun : since ≤ j) (begins : Begins (rowTables n words figures score costs strictness) n before since) where
   abbrev tables : RowTables
@@ -226,7 +228,7 @@ module _ (n : ℕ) (words : List ℕ) (figures : List Float) (score : ℕ → Fl
 
   -- the way by the gap, as the code reads it
   abbrev gapWay : Way
-  gapWay = Gap (sub binary64 last (getD figures (64 + j - 1) nan))
+  gapWay = Gap (sub binary64 last (getD figures (gapsAt + j - 1) nan))
 
   -- the gap carried on from the cell before
   carried :
@@ -235,8 +237,8 @@ module _ (n : ℕ) (words : List ℕ) (figures : List Float) (score : ℕ → Fl
       carry (marks q .overGap (j - 1)) (nextCells q s cells (j - 1)) ≡ held (markedBy gapWay)
   unfolding carry marks
   carried q s cells gaps h mark e =
-      let place : 1 * most + (j - 1) ≡ 64 + j - 1 = omega arith in
-      rw (e, ← gaps (j - 1) (omega arith), table-at 1 figures (j - 1) nan (omega arith), place)
+      let place : gapsAt + (j - 1) ≡ gapsAt + j - 1 = omega arith in
+      rw (e, ← gaps (j - 1) (omega arith), table-at gapsAt figures (j - 1) nan (omega arith), place)
 
   -- a row's first boundary is reached by a unit, so a boundary that none reaches is a later one
   pub later-than : arrivesFrom (lowAt tables) (endAt tables) before j ≡ false → since < j
@@ -247,7 +249,7 @@ module _ (n : ℕ) (words : List ℕ) (figures : List Float) (score : ℕ → Fl
 
   module _ (low end : ℕ) (lowest : low ≡ max (lowAt tables j) before) (to : end ≡ endAt tables j) where
     abbrev unitWays : Way
-    unitWays = unitsKept best words figures (score j) (costs .«unvoiced») j low end
+    unitWays = unitsKept best words figures (score j) costs j low end
 
     nothing-arrives : end ≤ low → arrivesFrom (lowAt tables) (endAt tables) before j ≡ false
     nothing-arrives h = by-order before (endAt tables j)
@@ -276,7 +278,7 @@ module _ (n : ℕ) (words : List ℕ) (figures : List Float) (score : ℕ → Fl
 
     kept-markable : low < end → Markable unitWays
     kept-markable some =
-        units-markable n words figures score costs strictness lent few ordered j within best long low end (omega arith) to some (score j) (costs .«unvoiced»)
+        units-markable n words figures score costs strictness lent few ordered j within best long low end (omega arith) to some (score j)
 
     -- the first boundary of a row has its units alone
     pub cell-units : low < end → j ≤ since → CellOf tables best n before since j last unitWays

@@ -7,7 +7,7 @@ use lib.Ieee.{Float, lt, nan}
 use lib.ListN.{getD}
 use Rattle.paths.specs.Problem.{Problem}
 use Rattle.paths.specs.Cell.{Cell, held}
-use Rattle.paths.specs.Marks.{Marked, chosenEnd, End as Ended}
+use Rattle.paths.specs.inner.Marks.{Marked, chosenEnd, End as Ended}
 use Rattle.rows.specs.declared.end.End.{End}
 use Rattle.rows.specs.Rows.{Row, first}
 use Rattle.rows.specs.Units.{ReachedFrom}

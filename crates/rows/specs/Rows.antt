@@ -7,7 +7,7 @@ use lib.Ieee.{Float, binary64, nan, ofBits}
 use Rattle.paths.specs.Problem.{Problem}
 use Rattle.paths.specs.Cell.{Cell, empty, held}
 use Rattle.paths.specs.CellRule.{rows}
-use Rattle.paths.specs.Marks.{Marked, marks}
+use Rattle.paths.specs.inner.Marks.{Marked, marks}
 
 -- What the two numbers of a cell stand for: both are 0 where nothing reached it.
 pub data Holds : Float → ℕ → Cell Marked → Type 0 where

@@ -3,7 +3,8 @@ use Prim.Native.Nat.{ℕ, _+_, _-_, _*_}
 use mathlib.Core.List.{List, _++_, map}
 use mathlib.Core.Path.{_≡_}
 use lib.ListN.{length, getD, replicate}
-use Rattle.paths.specs.Marks.{Traces}
+use Rattle.limits.specs.Capacity.{mostUnits}
+use Rattle.paths.specs.inner.Marks.{Traces}
 use Rattle.paths.specs.Path.{Bounds}
 use Rattle.rows.specs.declared.trace.Units.{Units}
 
@@ -18,10 +19,6 @@ Traceable back n s j = (units : List Bounds) × Traces (markIn back n) s j units
 -- so many numbers, of which the first are given and the others 0
 abbrev pub padded : ℕ → List ℕ → List ℕ
 padded size numbers = numbers ++ replicate (size - length numbers) 0
-
--- the most units that a path is reported with
-abbrev pub mostUnits : ℕ
-mostUnits = 16
 
 abbrev pub firstsOf : List Bounds → List ℕ
 firstsOf units = map (λ (unit : Bounds). unit .first) units

@@ -11,9 +11,9 @@ use Rattle.paths.specs.declared.passes.Strictness.{Strictness}
 use Rattle.paths.specs.Problem.{Problem}
 use Rattle.paths.specs.Cell.{Cell, held, best as bestOf, isHeld}
 use Rattle.paths.specs.CellRule.{arrival, sweep}
-use Rattle.paths.specs.Marks.{Marked, marks}
-use Rattle.paths.specs.Ranges.{inRange, Origins, arrivesFrom}
-use Rattle.paths.specs.Units.{shortestUnit, longestUnit}
+use Rattle.paths.specs.inner.Marks.{Marked, marks}
+use Rattle.paths.specs.inner.Ranges.{inRange, Origins, arrivesFrom}
+use Rattle.limits.specs.Common.{shortestUnit, longestUnit}
 use Rattle.stages.specs.Tables.{StageTables, endsIn, tablesIn}
 use Rattle.rows.specs.declared.way.Way.{Way}
 use Rattle.rows.specs.Ways.{Markable, markedBy}

@@ -2,7 +2,7 @@
 use Prim.Native.Nat.{ℕ, zero, suc, _+_, _<_, _^_}
 use mathlib.Core.Bool.{cond}
 use lib.Ieee.{Float, lt}
-use Rattle.paths.specs.Marks.{Marked}
+use Rattle.paths.specs.inner.Marks.{Marked}
 use Rattle.rows.specs.declared.way.Way.{Way}
 use Rattle.rows.specs.declared.way.Way.the-variants.{Start, Gap, Unit}
 

@@ -2,11 +2,12 @@
 
 ghost use mathlib.Core.Bool.{not};
 ghost use mathlib.Core.Path.{_≡_};
-ghost use Prim.Native.Nat.{ℕ, _+_, _*_, _≤_, _<_, max};
+ghost use Prim.Native.Nat.{ℕ, _+_, _≤_, _<_, max};
 ghost use lib.Dec.{T};
 ghost use lib.Ieee.{isNan};
 ghost use lib.ListN.{length, getD};
-ghost use Rattle.stages.specs.Room.{most};
+ghost use Rattle.limits.specs.Capacity.{mostBoundaries};
+ghost use Rattle.stages.specs.Lists.{middlesAt, wordsLong};
 ghost use Rattle.rows.specs.Rows.{Row, next, unfilled};
 ghost use Rattle.rows.specs.Units.{Begins, CellOf, Ordered, RowFilled, rowTables};
 ghost use Rattle.rows.specs.Reads.{Lent, Scorable, UnitRead, originsTo, scoreRead, unitsKept};
@@ -30,7 +31,7 @@ fn larger(a: usize, b: usize) -> usize
 
 // Where the origins end whose units a pass asks for: those that hold an anchor, or all.
 fn origins_end(words: &[u32], strictness: Strictness, j: usize) -> usize
-    requires { ⌜ (length (now words) ≡ 482) × (j < most) ⌝ }
+    requires { ⌜ (length (now words) ≡ wordsLong) × (j < mostBoundaries) ⌝ }
     ensures { λ r. ⌜ r ≡ originsTo (now (words .entry)) strictness j ⌝ }
 {
     match strictness {
@@ -53,24 +54,32 @@ fn arrived<'a>(
     low: usize,
     end: usize,
 ) -> Way
-    requires { ⌜ Lent (now words) (now figures) × (n ≤ most) × (j < n) × (low < end) × T (not (isNan (costs .«unvoiced»))) ⌝ }
-    requires { ⌜ Scorable (now bytes) at (now words) column n × (getD (now words) (2 * most + j) 0 ≤ end) ⌝ }
+    requires { ⌜ Lent (now words) (now figures) × (n ≤ mostBoundaries) × (j < n) × (low < end) × T (not (isNan (costs .«unvoiced»))) ⌝ }
+    requires { ⌜ Scorable (now bytes) at (now words) column n × (getD (now words) (middlesAt + j) 0 ≤ end) ⌝ }
     requires { ⌜ ((i : ℕ) → low ≤ i → i < end → UnitRead (now best) (now words) (now figures) (getD (now words) j 0) i) ⌝ }
-    ensures { λ r. ⌜ r ≡ unitsKept (now (best .entry)) (now (words .entry)) (now (figures .entry)) (scoreRead (now (bytes .entry)) (now (words .entry)) column j) (costs .«unvoiced») j low end ⌝ }
+    ensures { λ r. ⌜ r ≡ unitsKept (now (best .entry)) (now (words .entry)) (now (figures .entry)) (scoreRead (now (bytes .entry)) (now (words .entry)) column j) costs j low end ⌝ }
 {
     let to = words[j];
     let middle = words[MIDDLE + j] as usize;
-    let unvoiced = costs.unanchored();
     let voice = if low < middle {
         score_at(bytes, at, words, column, n, j)
     } else {
-        unvoiced
+        costs.unanchored()
     };
     let first = unit_from(best, words, figures, to, voice, low);
     let next = low + 1;
     let anchored = units_from(best, words, figures, to, voice, next, middle, first);
     let rest = larger(next, middle);
-    units_from(best, words, figures, to, unvoiced, rest, end, anchored)
+    units_from(
+        best,
+        words,
+        figures,
+        to,
+        costs.unanchored(),
+        rest,
+        end,
+        anchored,
+    )
 }
 
 // "Start comes first, then units [..], then the gap": what is kept in the cell of boundary j. `best` has the row before, whose first
@@ -90,7 +99,7 @@ fn cell<'a>(
     j: usize,
     last: f64,
 ) -> Way
-    requires { ⌜ Lent (now words) (now figures) × (n ≤ most) × Scorable (now bytes) at (now words) column n × Ordered (rowTables n (now words) (now figures) (scoreRead (now bytes) (now words) column) costs strictness) n ⌝ }
+    requires { ⌜ Lent (now words) (now figures) × (n ≤ mostBoundaries) × Scorable (now bytes) at (now words) column n × Ordered (rowTables n (now words) (now figures) (scoreRead (now bytes) (now words) column) costs strictness) n ⌝ }
     requires { ⌜ (n + n ≤ length (now best)) × (since ≤ j) × (j < n) × Begins (rowTables n (now words) (now figures) (scoreRead (now bytes) (now words) column) costs strictness) n before since ⌝ }
     ensures { λ r. ⌜ CellOf (rowTables n (now (words .entry)) (now (figures .entry)) (scoreRead (now (bytes .entry)) (now (words .entry)) column) costs strictness) (now (best .entry)) n before since j last r ⌝ }
 {
@@ -134,7 +143,7 @@ pub fn fill_row<'a>(
     before: usize,
     since: usize,
 )
-    requires { ⌜ Lent (now words) (now figures) × (n ≤ most) × Scorable (now bytes) at (now words) column n × Ordered (rowTables n (now words) (now figures) (scoreRead (now bytes) (now words) column) costs strictness) n ⌝ }
+    requires { ⌜ Lent (now words) (now figures) × (n ≤ mostBoundaries) × Scorable (now bytes) at (now words) column n × Ordered (rowTables n (now words) (now figures) (scoreRead (now bytes) (now words) column) costs strictness) n ⌝ }
     requires { ⌜ (n + n ≤ length (now best)) × (n + n ≤ length (now back)) × Row (now best) (now back) (next n) n unfilled ⌝ }
     requires { ⌜ Begins (rowTables n (now words) (now figures) (scoreRead (now bytes) (now words) column) costs strictness) n before since ⌝ }
     ensures { λ _. ⌜ RowFilled (rowTables n (now (words .entry)) (now (figures .entry)) (scoreRead (now (bytes .entry)) (now (words .entry)) column) costs strictness) (now (best .entry)) (now (back .entry)) (now (best .exit)) (now (back .exit)) n before ⌝ }

@@ -3,7 +3,8 @@
 ghost use mathlib.Core.Path.{_≡_};
 ghost use Prim.Native.Nat.{_<_};
 ghost use lib.ListN.{length};
-ghost use Rattle.stages.specs.Room.{counts};
+ghost use Rattle.limits.specs.Capacity.{unitCounts};
+ghost use Rattle.stages.specs.Lists.{wordsLong};
 ghost use Rattle.rows.specs.Reads.{reachedBy};
 use paths::passes::Strictness;
 use stages::lists::SINCE_RELAXED;
@@ -11,7 +12,7 @@ use stages::lists::SINCE_STRICT;
 
 // The first boundary that a path of so many units reaches in a pass; how many there are where it reaches none.
 pub fn first_reached(words: &[u32], strictness: Strictness, units: usize) -> usize
-    requires { ⌜ (length (now words) ≡ 482) × (units < counts) ⌝ }
+    requires { ⌜ (length (now words) ≡ wordsLong) × (units < unitCounts) ⌝ }
     ensures { λ r. ⌜ r ≡ reachedBy (now (words .entry)) strictness units ⌝ }
 {
     match strictness {

@@ -3,7 +3,8 @@
 ghost use mathlib.Core.Path.{_≡_};
 ghost use Prim.Native.Nat.{_<_, _≤_};
 ghost use lib.ListN.{length};
-ghost use Rattle.stages.specs.Room.{most};
+ghost use Rattle.limits.specs.Capacity.{mostBoundaries};
+ghost use Rattle.stages.specs.Lists.{wordsLong};
 ghost use Rattle.rows.specs.Reads.{Scorable, scoreRead};
 use reading::read::score;
 use reading::read::score_row;
@@ -19,7 +20,7 @@ pub(crate) fn score_at(
     n: usize,
     j: usize,
 ) -> f64
-    requires { ⌜ Scorable (now bytes) at (now words) column n × (length (now words) ≡ 482) × (n ≤ most) × (j < n) ⌝ }
+    requires { ⌜ Scorable (now bytes) at (now words) column n × (length (now words) ≡ wordsLong) × (n ≤ mostBoundaries) × (j < n) ⌝ }
     ensures { λ r. ⌜ r ≡ scoreRead (now (bytes .entry)) (now (words .entry)) column j ⌝ }
 {
     let row = words[ROW + j] as usize;

@@ -5,6 +5,7 @@ ghost use Prim.Native.Nat.{ℕ, _-_, _≤_, _<_};
 ghost use Rattle.rows.specs.Ways.{orEach};
 ghost use Rattle.rows.specs.Reads.{unitWay, UnitRead};
 use crate::way::Way;
+use limits::common::SHORTEST_UNIT;
 use stages::lists::DURATION;
 
 // "It adds score + duration, itself rounded once first."
@@ -21,7 +22,7 @@ pub(crate) fn unit_from(
 {
     let frames = (to - words[origin]) as usize;
     Way::Unit(
-        best[origin] + (score + figures[DURATION + (frames - 6)]),
+        best[origin] + (score + figures[DURATION + (frames - SHORTEST_UNIT)]),
         origin,
     )
 }

@@ -11,12 +11,15 @@ use lib.IntN.{pos, negsuc}
 use lib.Count.{trailingZeros}
 use lib.Ieee.{fin, le, lt, eq, neg, ofInt, round, size, span, climb, units, odd, ofBits, ofFields}
 use Rattle.laws.specs.Listed.{listed}
+use Rattle.laws.specs.Rules.{firstOf}
 use Rattle.phrase.specs.Phrase.{Phrase, spoken}
+use Rattle.limits.specs.Edition.{numbersOf}
 use Rattle.record.specs.Bytes.{u32At, u64At}
 use Rattle.record.specs.Below.{anyBelow}
 use Rattle.record.specs.Layout.{trailerOf, layoutFrom, layoutOf}
-use Rattle.record.specs.Conditions.{oversized, overreaching, badTrack, badCost, shortest, tableEntries}
-use Rattle.record.specs.Refusals.{firstOf, candidateRules, firstRules, ownRules, refusalOf, refusalWith}
+use Rattle.limits.specs.Common.{shortestUnit, durations}
+use Rattle.record.specs.Conditions.{oversized, overreaching, badTrack, badCost}
+use Rattle.record.specs.Refusals.{trailerRules, contentRules, firstRules, candidateRules, ownRules, refusalOf, refusalWith}
 use Rattle.record.specs.Meaning.{phraseAt, phraseOf}
 use Rattle.sample.specs.Sample.{sample}
 use Rattle.record.specs.declared.refusal.Refusal.{Refusal}
@@ -28,11 +31,11 @@ long = refl
 
 -- what the theorems below compute with
 checks : List ℕ → Option Refusal
-unfolding refusalOf firstOf ownRules firstRules candidateRules layoutOf layoutFrom trailerOf sample u32At u64At anyBelow oversized overreaching badTrack badCost le lt eq neg ofInt round size span climb units odd ofBits ofFields trailingZeros
+unfolding refusalOf firstOf ownRules firstRules trailerRules contentRules candidateRules layoutOf layoutFrom trailerOf sample u32At u64At anyBelow oversized overreaching badTrack badCost le lt eq neg ofInt round size span climb units odd ofBits ofFields trailingZeros numbersOf
 checks bytes = refusalOf bytes
 
 means : List ℕ → Phrase
-unfolding phraseOf phraseAt layoutOf layoutFrom trailerOf sample u32At u64At listed ofBits ofFields odd trailingZeros anyBelow eq
+unfolding phraseOf phraseAt layoutOf layoutFrom trailerOf sample u32At u64At listed ofBits ofFields odd trailingZeros anyBelow eq numbersOf
 means bytes = phraseOf bytes
 
 -- no rule refuses it
@@ -87,7 +90,7 @@ pub duration-ten : phraseOf sample .nuclei .duration 10 ≡ fin true 1 (negsuc 1
 unfolding means
 duration-ten = refl
 
-pub other-durations : anyBelow (λ i. not (eqb (shortest + i) 10) && not (eq (phraseOf sample .nuclei .duration (shortest + i)) (fin false 0 (pos 0)))) tableEntries ≡ false
+pub other-durations : anyBelow (λ i. not (eqb (shortestUnit + i) 10) && not (eq (phraseOf sample .nuclei .duration (shortestUnit + i)) (fin false 0 (pos 0)))) durations ≡ false
 unfolding means
 other-durations = refl
 
@@ -184,23 +187,23 @@ id-first = refl
 
 -- work areas of 1,088 cells and an output of 2 × 52 words do
 pub room-enough : refusalWith sample 1088 1088 104 ≡ none
-unfolding checks refusalWith
+unfolding checks refusalWith numbersOf
 room-enough = refl
 
 -- one element fewer in the first work area, in the second, in the output
 pub short-best : refusalWith sample 1087 1088 104 ≡ some Desk
-unfolding checks refusalWith
+unfolding checks refusalWith numbersOf
 short-best = refl
 
 pub short-back : refusalWith sample 1088 1087 104 ≡ some Desk
-unfolding checks refusalWith
+unfolding checks refusalWith numbersOf
 short-back = refl
 
 pub short-out : refusalWith sample 1088 1088 103 ≡ some Desk
-unfolding checks refusalWith
+unfolding checks refusalWith numbersOf
 short-out = refl
 
 -- with no buffers at all, the record's own refusal comes first
 pub record-first : refusalWith (set sample 44 1) 0 0 0 ≡ some Column
-unfolding checks refusalWith
+unfolding checks refusalWith numbersOf
 record-first = refl

@@ -6,7 +6,7 @@ use record::trailer::Mark;
 use record::trailer::Trailer;
 ghost use mathlib.Core.Path.{_≡_};
 ghost use Prim.Native.Nat.{_≤_};
-ghost use Rattle.record.specs.Bounds.{Inside};
+ghost use Rattle.record.specs.inner.Bounds.{Inside};
 ghost use Rattle.record.specs.Layout.{placed, layoutFrom};
 
 fn placed(end: usize, m: Mark) -> Section
@@ -24,6 +24,7 @@ pub fn laid_out(end: usize, t: Trailer) -> Layout
     ensures { λ r. ⌜ r ≡ layoutFrom end t ⌝ }
 {
     Layout {
+        edition: t.edition,
         mask: placed(end, t.mask),
         nuclei: placed(end, t.nuclei),
         boundaries: placed(end, t.boundaries),

@@ -1,16 +1,19 @@
 // Refusals 1 to 4: the record's size and edition, its counts and its back pointers.
 
-use record::limits::Limits;
+use limits::edition::Limits;
+use record::format::COSTS_BYTES;
+use record::format::RECORD_BYTES;
+use record::format::TRAILER_BYTES;
 use record::trailer::Trailer;
 ghost use mathlib.Core.Path.{_≡_};
-ghost use Rattle.record.specs.Edition.{Moderate};
-ghost use Rattle.record.specs.Bounds.{Sized};
+ghost use Rattle.limits.specs.inner.Moderate.{Moderate};
+ghost use Rattle.record.specs.inner.Bounds.{Sized};
 ghost use Rattle.record.specs.Conditions.{stub, otherEdition, oversized, outside, overreaching};
 
 pub fn stub(bytes: &[u8]) -> bool
     ensures { λ r. ⌜ r ≡ stub (now (bytes .entry)) ⌝ }
 {
-    (bytes.len() < 64) | (bytes.len() > 65536)
+    (bytes.len() < TRAILER_BYTES) | (bytes.len() > RECORD_BYTES)
 }
 
 pub fn other_edition(limits: Limits, t: Trailer) -> bool
@@ -45,6 +48,7 @@ pub fn overreaching(limits: Limits, end: usize, t: Trailer) -> bool
     requires { ⌜ Sized limits t ⌝ }
     ensures { λ r. ⌜ r ≡ overreaching limits end t ⌝ }
 {
+    let candidate_bytes = limits.candidate_bytes() * t.candidates.count;
     let score_bytes = 4 * ((t.nuclei.count + t.anchors.count) * t.scores.count);
     outside(end, t.mask.count, t.mask.back)
         | outside(end, 4 * t.nuclei.count, t.nuclei.back)
@@ -52,10 +56,6 @@ pub fn overreaching(limits: Limits, end: usize, t: Trailer) -> bool
         | outside(end, 4 * t.anchors.count, t.anchors.back)
         | outside(end, 4 * t.added.count, t.added.back)
         | outside(end, score_bytes, t.scores.back)
-        | outside(
-            end,
-            limits.candidate_bytes * t.candidates.count,
-            t.candidates.back,
-        )
-        | outside(end, 1228, t.costs)
+        | outside(end, candidate_bytes, t.candidates.back)
+        | outside(end, COSTS_BYTES, t.costs)
 }

@@ -1,22 +1,24 @@
 // The trailer, read from the last 64 bytes.
 
 use record::bytes::u32_at;
+use record::format::TRAILER_BYTES;
 use record::trailer::Mark;
 use record::trailer::Trailer;
 ghost use mathlib.Core.Path.{_≡_};
 ghost use Prim.Native.Nat.{_≤_, _<_};
 ghost use lib.ListN.{length};
+ghost use Rattle.record.specs.Format.{trailerBytes};
 ghost use Rattle.record.specs.Layout.{word, markAt, trailerOf};
 
 fn word(bytes: &[u8], k: usize) -> usize
-    requires { ⌜ (64 ≤ length (now bytes)) × (k < 16) ⌝ }
+    requires { ⌜ (trailerBytes ≤ length (now bytes)) × (k < 16) ⌝ }
     ensures { λ r. ⌜ r ≡ word (now (bytes .entry)) k ⌝ }
 {
-    u32_at(bytes, bytes.len() - 64 + 4 * k) as usize
+    u32_at(bytes, bytes.len() - TRAILER_BYTES + 4 * k) as usize
 }
 
 fn mark_at(bytes: &[u8], k: usize) -> Mark
-    requires { ⌜ (64 ≤ length (now bytes)) × (k < 15) ⌝ }
+    requires { ⌜ (trailerBytes ≤ length (now bytes)) × (k < 15) ⌝ }
     ensures { λ r. ⌜ r ≡ markAt (now (bytes .entry)) k ⌝ }
 {
     Mark {
@@ -26,7 +28,7 @@ fn mark_at(bytes: &[u8], k: usize) -> Mark
 }
 
 pub fn trailer_of(bytes: &[u8]) -> Trailer
-    requires { ⌜ 64 ≤ length (now bytes) ⌝ }
+    requires { ⌜ trailerBytes ≤ length (now bytes) ⌝ }
     ensures { λ r. ⌜ r ≡ trailerOf (now (bytes .entry)) ⌝ }
 {
     Trailer {

@@ -13,7 +13,7 @@ use Rattle.laws.proofs.Listed.{written-at}
 use Rattle.laws.proofs.Numbers.{by-order}
 use Rattle.laws.proofs.Rewriting.{written-alike, written-over}
 use Rattle.spans.specs.Spans.{uncutStart, uncutEnd, cut, spanOf}
-use Rattle.spans.specs.Walk.{Increasing, cutStart, cutEnd}
+use Rattle.spans.specs.inner.Walk.{Increasing, cutStart, cutEnd}
 use Rattle.spans.proofs.Splits.{none-before, highest-before, none-from, lowest-at, own-split, next-split}
 
 -- one turn of the walk over neighbours i and i + 1, which has read s and e from the lists; and the last end, which has no neighbour

@@ -5,3 +5,4 @@ mod Splits
 mod CutEdges
 pub mod SpanFacts
 pub mod Examples
+mod OneOutcome

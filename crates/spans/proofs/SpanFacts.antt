@@ -9,7 +9,7 @@ use lib.Dec.{T, ltb, ltb→lt, nltb→le}
 use lib.ListN.{length}
 use Rattle.laws.proofs.Tests.{by-choice}
 use Rattle.frames.specs.Frames.{highestBelow, lowestFrom, onward, ascendingFrom, orElse}
-use Rattle.frames.specs.Order.{InOrder}
+use Rattle.frames.specs.theory.Order.{InOrder}
 use Rattle.spans.specs.Spans.{uncutStart, uncutEnd, startBeside, endBeside, spanOf, spansOf}
 use Rattle.frames.specs.declared.list.Nearest.{Nearest}
 use Rattle.frames.specs.declared.list.Nearest.the-variants.{None, At}

@@ -12,7 +12,7 @@ use lib.ListN.{length, getD}
 use Rattle.laws.proofs.Numbers.{by-order}
 use Rattle.frames.specs.Frames.{highestBelow, lowestFrom}
 use Rattle.frames.specs.declared.list.Nearest.the-variants.{None, At}
-use Rattle.spans.specs.Walk.{Increasing, Below, Splits}
+use Rattle.spans.specs.inner.Walk.{Increasing, Below, Splits}
 
 climbs : (l : List ℕ) → Increasing l → (i j : ℕ) → i < j → j < length l → getD l i 0 < getD l j 0
 climbs l up i zero h within = absurd (not-suc-le-zero h)

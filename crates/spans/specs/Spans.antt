@@ -5,7 +5,9 @@ use mathlib.Core.List.{List, [], _∷_, _++_, map}
 use mathlib.Core.Path.{_≡_}
 use lib.Dec.{ltb}
 use lib.ListN.{length, drop}
-use Rattle.frames.specs.Outcome.{Outcome, accepted, refused, check, checked, anyAbove, lastFrame, mostFrames}
+use Rattle.limits.specs.Common.{lastFrame}
+use Rattle.laws.specs.Rules.{rule}
+use Rattle.frames.specs.Outcome.{Outcome, accepted, refused, checked, anyAbove, mostFrames}
 use Rattle.frames.specs.Frames.{orElse, highestBelow, lowestFrom, ascending}
 use Rattle.frames.specs.declared.list.Nearest.{Nearest}
 use Rattle.frames.specs.declared.list.Nearest.the-variants.{None, At}
@@ -66,9 +68,9 @@ outcome Desk = refused 11
 unfoldable pub tbuSpansOf : List ℕ → List ℕ → ℕ → ℕ → ℕ → Outcome ℕ
 tbuSpansOf nuclei bounds lo hi room =
     checked
-    (check 3 (ltb mostFrames (length nuclei) || ltb mostFrames (length bounds))
-    ∷ check 5 (anyAbove lastFrame nuclei || anyAbove lastFrame bounds || ltb lastFrame lo || ltb lastFrame hi)
-    ∷ check 11 (ltb room (2 * length (ascending nuclei)))
+    (rule 3 (ltb mostFrames (length nuclei) || ltb mostFrames (length bounds))
+    ∷ rule 5 (anyAbove lastFrame nuclei || anyAbove lastFrame bounds || ltb lastFrame lo || ltb lastFrame hi)
+    ∷ rule 11 (ltb room (2 * length (ascending nuclei)))
     ∷ [])
     (length (ascending nuclei))
 

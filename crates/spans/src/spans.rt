@@ -1,10 +1,10 @@
 // Unit spans, after `tbu_spans` of evidence.rs.
 
 use crate::edges::span_of;
-use frames::limits::LAST_FRAME;
-use frames::limits::MOST_FRAMES;
 use frames::list;
 use frames::list::Nearest;
+use frames::sizes::MOST_FRAMES;
+use limits::common::LAST_FRAME;
 ghost use mathlib.Core.Path.{_≡_};
 ghost use Rattle.spans.specs.Spans.{spansOf, wordsOf, overwritten, Writable, Answers};
 

@@ -8,7 +8,7 @@ ghost use Prim.Native.Nat.{_+_, _<_, _≤_, _^_};
 ghost use lib.ListN.{length, getD};
 ghost use Rattle.laws.specs.Listed.{written};
 ghost use Rattle.spans.specs.Spans.{uncutStart, uncutEnd, spanOf};
-ghost use Rattle.spans.specs.Walk.{Increasing, Walkable, Below, Splits, cutStart, cutEnd};
+ghost use Rattle.spans.specs.inner.Walk.{Increasing, Walkable, Below, Splits, cutStart, cutEnd};
 
 // The first place from `from` on whose boundary is not below the frame.
 fn below(bounds: &[u32], from: usize, frame: u32) -> usize

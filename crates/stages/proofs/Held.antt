@@ -14,7 +14,7 @@ use Rattle.laws.proofs.Listed.{padded-in, padded-out}
 use Rattle.laws.specs.Listed.{padded}
 use Rattle.paths.specs.Frames.{Increasing, withinMask}
 use Rattle.paths.specs.Anchors.{Anchor, select, numbered, keptIn, heldIn}
-use Rattle.paths.specs.LookAhead.{ahead}
+use Rattle.paths.specs.theory.LookAhead.{ahead}
 use Rattle.stages.specs.Kept.{framesOf}
 use Rattle.stages.specs.Places.{Climbs, countBelow}
 use Rattle.stages.proofs.Places.{one-counted, none-counted, none-below}

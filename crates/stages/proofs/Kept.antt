@@ -14,8 +14,8 @@ use Rattle.laws.specs.Listed.{padded}
 use Rattle.paths.specs.Frames.{withinMask}
 use Rattle.paths.specs.Passes.{nonEmpty}
 use Rattle.paths.specs.Anchors.{Anchor, select, numbered, keptIn}
-use Rattle.stages.specs.Room.{room}
-use Rattle.stages.specs.Tables.{beyond}
+use Rattle.limits.specs.Capacity.{anchorRoom}
+use Rattle.limits.specs.Common.{absent}
 use Rattle.stages.specs.Kept.{Keeps}
 
 select-append : (test : Anchor → Bool) (xs ys : List Anchor) → select test (xs ++ ys) ≡ select test xs ++ select test ys
@@ -59,30 +59,30 @@ map-last : (f : Anchor → ℕ) (anchors : List Anchor) (anchor : Anchor) → ma
 map-last f [] anchor = refl
 map-last f (first ∷ anchors) anchor = ap (λ (rest : List ℕ). f first ∷ rest) (map-last f anchors anchor)
 
-pub keeps-none : Keeps [] 0 (replicate room beyond) (replicate room 0)
-keeps-none = record { counted = refl; framed = padded-none room beyond; rowed = padded-none room 0 }
+pub keeps-none : Keeps [] 0 (replicate anchorRoom absent) (replicate anchorRoom 0)
+keeps-none = record { counted = refl; framed = padded-none anchorRoom absent; rowed = padded-none anchorRoom 0 }
 
 -- an array of one figure of each anchor takes in the next one
 figure-more : (f : Anchor → ℕ) (spare : ℕ) (anchors : List Anchor) (anchor : Anchor) (count : ℕ) (figures : List ℕ)
-    → count ≡ length anchors → count < room → figures ≡ padded (map f anchors) room spare
-    → set figures count (f anchor) ≡ padded (map f (anchors ++ (anchor ∷ []))) room spare
+    → count ≡ length anchors → count < anchorRoom → figures ≡ padded (map f anchors) anchorRoom spare
+    → set figures count (f anchor) ≡ padded (map f (anchors ++ (anchor ∷ []))) anchorRoom spare
 figure-more f spare anchors anchor count figures counted h e =
     ap₂ (λ (l : List ℕ) (n : ℕ). set l n (f anchor)) e (counted ∙ sym (length-map anchors f))
-    ∙ padded-more (map f anchors) room spare (f anchor) (omega (arith, length-map anchors f))
-    ∙ ap (λ (l : List ℕ). padded l room spare) (sym (map-last f anchors anchor))
+    ∙ padded-more (map f anchors) anchorRoom spare (f anchor) (omega (arith, length-map anchors f))
+    ∙ ap (λ (l : List ℕ). padded l anchorRoom spare) (sym (map-last f anchors anchor))
 
-pub keeps-more : (anchors : List Anchor) (anchor : Anchor) (count : ℕ) (frames rows : List ℕ) → count < room → Keeps anchors count frames rows
+pub keeps-more : (anchors : List Anchor) (anchor : Anchor) (count : ℕ) (frames rows : List ℕ) → count < anchorRoom → Keeps anchors count frames rows
     → Keeps (anchors ++ (anchor ∷ [])) (count + 1) (set frames count (anchor .frame)) (set rows count (anchor .row))
 keeps-more anchors anchor count frames rows h k = record {
   counted = omega (arith, k .counted, length-append anchors (anchor ∷ []));
-  framed = figure-more (λ a. a .frame) beyond anchors anchor count frames (k .counted) h (k .framed);
+  framed = figure-more (λ a. a .frame) absent anchors anchor count frames (k .counted) h (k .framed);
   rowed = figure-more (λ a. a .row) 0 anchors anchor count rows (k .counted) h (k .rowed);
 }
 
 -- One listed frame more, kept or dropped.
 module _ (mask : List ℕ) (first : ℕ) (listed : List ℕ) (i : ℕ) (h : i < length listed) (count : ℕ) (frames rows : List ℕ)
     (before : Keeps (keptIn mask first (take i listed)) count frames rows) where
-  pub keeps-it : count < room → withinMask mask (getD listed i 0) ≡ true
+  pub keeps-it : count < anchorRoom → withinMask mask (getD listed i 0) ≡ true
       → Keeps (keptIn mask first (take (i + 1) listed)) (count + 1) (set frames count (getD listed i 0)) (set rows count (first + i))
   keeps-it small e =
       rw (one-more mask first listed i h, e) (keeps-more (keptIn mask first (take i listed)) (record { frame = getD listed i 0; row = first + i }) count frames rows small before)

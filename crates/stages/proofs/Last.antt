@@ -9,7 +9,7 @@ use lib.Seq.{drop-cons}
 use Rattle.laws.proofs.Numbers.{by-order}
 use Rattle.laws.specs.Listed.{padded}
 use Rattle.paths.specs.Anchors.{Anchor, select}
-use Rattle.paths.specs.Ranges.{before, lastOf}
+use Rattle.paths.specs.inner.Ranges.{before, lastOf}
 use Rattle.stages.specs.Kept.{framesOf}
 use Rattle.stages.specs.Places.{Climbs, countBelow}
 use Rattle.stages.specs.Ranges.{entryOf}

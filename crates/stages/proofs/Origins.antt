@@ -1,6 +1,6 @@
 -- The invariants of the two loops that lay the origins of each boundary, and their turns: each target in turn takes the origin in, and at
 -- the break no later target would take it in.
-use Prim.Native.Nat.{ℕ, suc, _+_, _-_, _*_, _≤_, _<_}
+use Prim.Native.Nat.{ℕ, suc, _+_, _-_, _≤_, _<_}
 use mathlib.Core.Bool.{Bool, true, false, cond, _&&_, _||_, and-false}
 use mathlib.Core.List.{List}
 use mathlib.Core.Logic.{_≢_}
@@ -17,33 +17,34 @@ use Rattle.laws.proofs.Choices.{neither-left, neither-right, one-passes}
 use Rattle.laws.proofs.Range.{none-passes, first-same, past-le, past-same, past-passes, past-fails, first-fails, first-new, first-stays, past-on, first-on}
 use Rattle.laws.proofs.Listed.{length-listed, padded-out, length-table, table-at, table-same}
 use Rattle.laws.specs.Listed.{listed, tableOf}
-use Rattle.laws.specs.Range.{firstFrom, pastLast}
+use Rattle.laws.specs.inner.Range.{firstFrom, pastLast}
 use Rattle.paths.specs.Frames.{Increasing}
-use Rattle.paths.specs.Units.{shortestUnit, longestUnit, fitsUnit}
+use Rattle.limits.specs.Common.{shortestUnit, longestUnit}
+use Rattle.paths.specs.Units.{fitsUnit}
 use Rattle.paths.proofs.Frames.{increasing-le}
-use Rattle.stages.specs.Room.{most}
-use Rattle.stages.specs.Tables.{tableAt}
+use Rattle.limits.specs.Capacity.{mostBoundaries}
+use Rattle.stages.specs.Lists.{originsLong, lowsIn, middlesIn, highsIn, tableAt}
 use Rattle.stages.specs.Ranges.{entryOf, unitTo, anchoredTo, Ranged, withOrigin, Ends}
 
 -- of boundary j the origins among the first m numbers are taken in
 pub record Holds (bounds : List ℕ) (first second : ℕ → ℕ) (words : List ℕ) (j m : ℕ) : Type 0 where
   pub low : getD words j 0 ≡ firstFrom 0 (unitTo bounds second j) 0 m
-  pub middle : getD words (most + j) 0 ≡ pastLast (anchoredTo bounds first second j) m
-  pub high : getD words (2 * most + j) 0 ≡ pastLast (unitTo bounds second j) m
+  pub middle : getD words (middlesIn + j) 0 ≡ pastLast (anchoredTo bounds first second j) m
+  pub high : getD words (highsIn + j) 0 ≡ pastLast (unitTo bounds second j) m
 
 -- origins below i are done
 pub record Origins (bounds : List ℕ) (first second : ℕ → ℕ) (words : List ℕ) (i : ℕ) : Type 0 where
   pub bounded : i ≤ length bounds
-  pub long : length words ≡ 3 * most
-  pub done : (j : ℕ) → j < most → Holds bounds first second words j i
+  pub long : length words ≡ originsLong
+  pub done : (j : ℕ) → j < mostBoundaries → Holds bounds first second words j i
 
 -- of origin i, targets below j are done
 pub record Targets (bounds : List ℕ) (first second : ℕ → ℕ) (words : List ℕ) (i j : ℕ) : Type 0 where
   pub origin : i < j
   pub bounded : j ≤ length bounds
-  pub long : length words ≡ 3 * most
-  pub near : (target : ℕ) → target < j → target < most → Holds bounds first second words target (suc i)
-  pub far : (target : ℕ) → j ≤ target → target < most → Holds bounds first second words target i
+  pub long : length words ≡ originsLong
+  pub near : (target : ℕ) → target < j → target < mostBoundaries → Holds bounds first second words target (suc i)
+  pub far : (target : ℕ) → j ≤ target → target < mostBoundaries → Holds bounds first second words target i
 
 -- ---- one origin more
 
@@ -60,47 +61,47 @@ set-there : (passes : Bool) (l : List ℕ) (at x : ℕ) → at < length l → ge
 set-there true l at x h = getD-set-same l at x 0 h
 set-there false l at x h = refl
 
-module _ (words : List ℕ) (i j : ℕ) (anchored : Bool) (inside : j < most) (long : length words ≡ 3 * most) where
+module _ (words : List ℕ) (i j : ℕ) (anchored : Bool) (inside : j < mostBoundaries) (long : length words ≡ originsLong) where
   abbrev lowest : List ℕ
-  lowest = cond (eqb (getD words (2 * most + j) 0) 0) (set words j i) words
+  lowest = cond (eqb (getD words (highsIn + j) 0) 0) (set words j i) words
 
   abbrev middles : List ℕ
-  middles = cond anchored (set lowest (most + j) (i + 1)) lowest
+  middles = cond anchored (set lowest (middlesIn + j) (i + 1)) lowest
 
-  lowest-long : length lowest ≡ 3 * most
-  lowest-long = set-either (eqb (getD words (2 * most + j) 0) 0) words j i ∙ long
+  lowest-long : length lowest ≡ originsLong
+  lowest-long = set-either (eqb (getD words (highsIn + j) 0) 0) words j i ∙ long
 
-  middles-long : length middles ≡ 3 * most
-  middles-long = set-either anchored lowest (most + j) (i + 1) ∙ lowest-long
+  middles-long : length middles ≡ originsLong
+  middles-long = set-either anchored lowest (middlesIn + j) (i + 1) ∙ lowest-long
 
-  with-long : length (withOrigin words i j anchored) ≡ 3 * most
+  with-long : length (withOrigin words i j anchored) ≡ originsLong
   unfolding withOrigin
-  with-long = length-set middles (2 * most + j) (i + 1) ∙ middles-long
+  with-long = length-set middles (highsIn + j) (i + 1) ∙ middles-long
 
-  with-beside : (k : ℕ) → k ≢ j → k ≢ most + j → k ≢ 2 * most + j → getD (withOrigin words i j anchored) k 0 ≡ getD words k 0
+  with-beside : (k : ℕ) → k ≢ j → k ≢ middlesIn + j → k ≢ highsIn + j → getD (withOrigin words i j anchored) k 0 ≡ getD words k 0
   unfolding withOrigin
   with-beside k low middle high =
-      getD-set-other middles (2 * most + j) k (i + 1) 0 high
-      ∙ set-beside anchored lowest (most + j) (i + 1) k middle
-      ∙ set-beside (eqb (getD words (2 * most + j) 0) 0) words j i k low
+      getD-set-other middles (highsIn + j) k (i + 1) 0 high
+      ∙ set-beside anchored lowest (middlesIn + j) (i + 1) k middle
+      ∙ set-beside (eqb (getD words (highsIn + j) 0) 0) words j i k low
 
-  with-low : getD (withOrigin words i j anchored) j 0 ≡ cond (eqb (getD words (2 * most + j) 0) 0) i (getD words j 0)
+  with-low : getD (withOrigin words i j anchored) j 0 ≡ cond (eqb (getD words (highsIn + j) 0) 0) i (getD words j 0)
   unfolding withOrigin
   with-low =
-      getD-set-other middles (2 * most + j) j (i + 1) 0 (λ e. omega arith)
-      ∙ set-beside anchored lowest (most + j) (i + 1) j (λ e. omega arith)
-      ∙ set-there (eqb (getD words (2 * most + j) 0) 0) words j i (omega arith)
+      getD-set-other middles (highsIn + j) j (i + 1) 0 (λ e. omega arith)
+      ∙ set-beside anchored lowest (middlesIn + j) (i + 1) j (λ e. omega arith)
+      ∙ set-there (eqb (getD words (highsIn + j) 0) 0) words j i (omega arith)
 
-  with-middle : getD (withOrigin words i j anchored) (most + j) 0 ≡ cond anchored (i + 1) (getD words (most + j) 0)
+  with-middle : getD (withOrigin words i j anchored) (middlesIn + j) 0 ≡ cond anchored (i + 1) (getD words (middlesIn + j) 0)
   unfolding withOrigin
   with-middle =
-      getD-set-other middles (2 * most + j) (most + j) (i + 1) 0 (λ e. omega arith)
-      ∙ set-there anchored lowest (most + j) (i + 1) (omega (arith, lowest-long))
-      ∙ ap (cond anchored (i + 1)) (set-beside (eqb (getD words (2 * most + j) 0) 0) words j i (most + j) (λ e. omega arith))
+      getD-set-other middles (highsIn + j) (middlesIn + j) (i + 1) 0 (λ e. omega arith)
+      ∙ set-there anchored lowest (middlesIn + j) (i + 1) (omega (arith, lowest-long))
+      ∙ ap (cond anchored (i + 1)) (set-beside (eqb (getD words (highsIn + j) 0) 0) words j i (middlesIn + j) (λ e. omega arith))
 
-  with-high : getD (withOrigin words i j anchored) (2 * most + j) 0 ≡ i + 1
+  with-high : getD (withOrigin words i j anchored) (highsIn + j) 0 ≡ i + 1
   unfolding withOrigin
-  with-high = getD-set-same middles (2 * most + j) (i + 1) 0 (omega (arith, middles-long))
+  with-high = getD-set-same middles (highsIn + j) (i + 1) 0 (omega (arith, middles-long))
 
 -- ---- which units there are
 
@@ -153,21 +154,21 @@ module _ {bounds : List ℕ} {first second : ℕ → ℕ} {words : List ℕ} (i 
     high = was .high ∙ sym (past-fails (unitTo bounds second j) i none);
   }
 
-  holds-beside : (anchored : Bool) (target m : ℕ) → target ≢ j → target < most → j < most → length words ≡ 3 * most
+  holds-beside : (anchored : Bool) (target m : ℕ) → target ≢ j → target < mostBoundaries → j < mostBoundaries → length words ≡ originsLong
       → Holds bounds first second words target m → Holds bounds first second (withOrigin words i j anchored) target m
   holds-beside anchored target m ne inside at long was = record {
     low = with-beside words i j anchored at long target ne (λ e. omega arith) (λ e. omega arith) ∙ was .low;
-    middle = with-beside words i j anchored at long (most + target) (λ e. omega arith) (λ e. ne (omega arith)) (λ e. omega arith)
+    middle = with-beside words i j anchored at long (middlesIn + target) (λ e. omega arith) (λ e. ne (omega arith)) (λ e. omega arith)
         ∙ was .middle;
-    high = with-beside words i j anchored at long (2 * most + target) (λ e. omega arith) (λ e. omega arith) (λ e. ne (omega arith))
+    high = with-beside words i j anchored at long (highsIn + target) (λ e. omega arith) (λ e. omega arith) (λ e. ne (omega arith))
         ∙ was .high;
   }
 
   -- the lowest origin is the first that is taken in
   low-taken : unitTo bounds second j i ≡ true → Holds bounds first second words j i
-      → cond (eqb (getD words (2 * most + j) 0) 0) i (getD words j 0) ≡ firstFrom 0 (unitTo bounds second j) 0 (suc i)
+      → cond (eqb (getD words (highsIn + j) 0) 0) i (getD words j 0) ≡ firstFrom 0 (unitTo bounds second j) 0 (suc i)
   low-taken one was =
-      let high = getD words (2 * most + j) 0 in
+      let high = getD words (highsIn + j) 0 in
       by-order 0 high
       (λ some.
       ap (λ (none : Bool). cond none i (getD words j 0)) (ne-eqb high 0 (λ e. omega arith)) ∙ was .low
@@ -177,15 +178,15 @@ module _ {bounds : List ℕ} {first second : ℕ → ℕ} {words : List ℕ} (i 
       ∙ sym (first-new (unitTo bounds second j) i 0 (omega (arith, was .high)) one))
 
   middle-taken : unitTo bounds second j i ≡ true → Holds bounds first second words j i
-      → cond (ltb (first i) (getD bounds j 0)) (i + 1) (getD words (most + j) 0) ≡ pastLast (anchoredTo bounds first second j) (suc i)
+      → cond (ltb (first i) (getD bounds j 0)) (i + 1) (getD words (middlesIn + j) 0) ≡ pastLast (anchoredTo bounds first second j) (suc i)
   middle-taken one was = go (ltb (first i) (getD bounds j 0)) (ap (λ (unit : Bool). unit && ltb (first i) (getD bounds j 0)) one)
     where
       go : (anchored : Bool) → anchoredTo bounds first second j i ≡ anchored
-          → cond anchored (i + 1) (getD words (most + j) 0) ≡ pastLast (anchoredTo bounds first second j) (suc i)
+          → cond anchored (i + 1) (getD words (middlesIn + j) 0) ≡ pastLast (anchoredTo bounds first second j) (suc i)
       go true e = add-one i ∙ sym (past-passes (anchoredTo bounds first second j) i e)
       go false e = was .middle ∙ sym (past-fails (anchoredTo bounds first second j) i e)
 
-  holds-taken : unitTo bounds second j i ≡ true → j < most → length words ≡ 3 * most → Holds bounds first second words j i
+  holds-taken : unitTo bounds second j i ≡ true → j < mostBoundaries → length words ≡ originsLong → Holds bounds first second words j i
       → Holds bounds first second (withOrigin words i j (ltb (first i) (getD bounds j 0))) j (suc i)
   holds-taken one inside long was =
       let anchored = ltb (first i) (getD bounds j 0) in record {
@@ -196,21 +197,21 @@ module _ {bounds : List ℕ} {first second : ℕ → ℕ} {words : List ℕ} (i 
 
 -- ---- the targets of one origin
 
-pub origins-begin : (bounds : List ℕ) (first second : ℕ → ℕ) {words : List ℕ} → words ≡ replicate (3 * most) 0
+pub origins-begin : (bounds : List ℕ) (first second : ℕ → ℕ) {words : List ℕ} → words ≡ replicate originsLong 0
     → Origins bounds first second words 0
 unfolding firstFrom pastLast
 origins-begin bounds first second {words} fresh = record {
   bounded = omega arith;
-  long = ap length fresh ∙ length-replicate {A = ℕ} (3 * most) 0;
+  long = ap length fresh ∙ length-replicate {A = ℕ} originsLong 0;
   done = λ j h. record {
     low = nothing j (omega arith);
-    middle = nothing (most + j) (omega arith);
-    high = nothing (2 * most + j) (omega arith);
+    middle = nothing (middlesIn + j) (omega arith);
+    high = nothing (highsIn + j) (omega arith);
   };
 }
   where
-    nothing : (at : ℕ) → at < 3 * most → getD words at 0 ≡ 0
-    nothing at h = ap (λ (l : List ℕ). getD l at 0) fresh ∙ getD-replicate (3 * most) at 0 0 h
+    nothing : (at : ℕ) → at < originsLong → getD words at 0 ≡ 0
+    nothing at h = ap (λ (l : List ℕ). getD l at 0) fresh ∙ getD-replicate originsLong at 0 0 h
 
 module _ {bounds : List ℕ} {first second : ℕ → ℕ} (increasing : Increasing bounds) where
   pub targets-begin : {words : List ℕ} {i : ℕ} → Origins bounds first second words i → i < length bounds
@@ -253,7 +254,7 @@ module _ {bounds : List ℕ} {first second : ℕ → ℕ} {words : List ℕ} {i 
       here : (target : ℕ) → target < j + 1 → j ≤ target → j ≡ target
       here target h same = omega arith
 
-  pub target-taken : length bounds ≤ most → unitTo bounds second j i ≡ true
+  pub target-taken : length bounds ≤ mostBoundaries → unitTo bounds second j i ≡ true
       → Targets bounds first second (withOrigin words i j (ltb (first i) (getD bounds j 0))) i (j + 1)
   target-taken few one = record {
     origin = omega (arith, was .origin);
@@ -284,18 +285,18 @@ table-is f n size list few long inside outside =
     (λ less. inside i less ∙ sym (table-at f n size 0 0 i less))
     (λ more. outside i more (omega arith) ∙ sym (padded-out (listed f n) size 0 0 i (omega (arith, length-listed f n)) (omega arith))))
 
--- Table k of the words, where the entry of boundary j is what some figure makes of the first n numbers. Neither numbers from j on change
--- it, nor any of a boundary past the last.
-laid-table : (words : List ℕ) (k n : ℕ) (figure : ℕ → ℕ → ℕ) → n ≤ most → length words ≡ 3 * most → k < 3
-    → ((j : ℕ) → j < most → getD words (k * most + j) 0 ≡ figure j n) → ((j : ℕ) → j < n → figure j n ≡ figure j j)
-    → ((j : ℕ) → n ≤ j → figure j n ≡ 0) → tableAt k words ≡ tableOf (λ j. figure j j) n most 0
-laid-table words k n figure few long h entries still none =
-    table-is (λ j. figure j j) n most (tableAt k words) few
-    (length-take-le most (drop (k * most) words) (omega (arith, length-drop (k * most) words)))
+-- The table at a place of the words, where the entry of boundary j is what some figure makes of the first n numbers. Neither numbers from j
+-- on change it, nor any of a boundary past the last.
+laid-table : (words : List ℕ) (at n : ℕ) (figure : ℕ → ℕ → ℕ) → n ≤ mostBoundaries → length words ≡ originsLong → at + mostBoundaries ≤ originsLong
+    → ((j : ℕ) → j < mostBoundaries → getD words (at + j) 0 ≡ figure j n) → ((j : ℕ) → j < n → figure j n ≡ figure j j)
+    → ((j : ℕ) → n ≤ j → figure j n ≡ 0) → tableAt at words ≡ tableOf (λ j. figure j j) n mostBoundaries 0
+laid-table words at n figure few long h entries still none =
+    table-is (λ j. figure j j) n mostBoundaries (tableAt at words) few
+    (length-take-le mostBoundaries (drop at words) (omega (arith, length-drop at words)))
     (λ j less. entry j (omega arith) ∙ still j less) (λ j more inside. entry j inside ∙ none j more)
   where
-    entry : (j : ℕ) → j < most → getD (tableAt k words) j 0 ≡ figure j n
-    entry j inside = getD-take most (drop (k * most) words) j 0 inside ∙ getD-drop (k * most) words j 0 ∙ entries j inside
+    entry : (j : ℕ) → j < mostBoundaries → getD (tableAt at words) j 0 ≡ figure j n
+    entry j inside = getD-take mostBoundaries (drop at words) j 0 inside ∙ getD-drop at words j 0 ∙ entries j inside
 
 module _ (tests : ℕ → ℕ → Bool) (n : ℕ) (later : (i j : ℕ) → j ≤ i → i < n → tests j i ≡ false)
     (beyond : (i j : ℕ) → n ≤ j → tests j i ≡ false) where
@@ -315,17 +316,17 @@ module _ (tests : ℕ → ℕ → Bool) (n : ℕ) (later : (i j : ℕ) → j ≤
   first-none : (j : ℕ) → n ≤ j → firstFrom 0 (tests j) 0 n ≡ 0
   first-none j h = none-passes 0 (tests j) 0 n (λ i a b. beyond i j h)
 
-pub origins-end : {bounds : List ℕ} {first second : ℕ → ℕ} {words : List ℕ} {i : ℕ} → Increasing bounds → length bounds ≤ most
+pub origins-end : {bounds : List ℕ} {first second : ℕ → ℕ} {words : List ℕ} {i : ℕ} → Increasing bounds → length bounds ≤ mostBoundaries
     → Origins bounds first second words i → length bounds ≤ i → Ranged bounds first second words
 origins-end {bounds} {first} {second} {words} {i} increasing few was all = record {
-  lows = laid-table words 0 n (λ j m. firstFrom 0 (unitTo bounds second j) 0 m) few (was .long) (omega arith)
+  lows = laid-table words lowsIn n (λ j m. firstFrom 0 (unitTo bounds second j) 0 m) few (was .long) (omega arith)
       (λ j h. ap (λ (at : ℕ). getD words at 0) (zero-add j) ∙ (done j h) .low)
       (first-still (unitTo bounds second) n (none-later bounds second increasing) (none-beyond bounds second))
       (first-none (unitTo bounds second) n (none-later bounds second increasing) (none-beyond bounds second));
   middles =
-      laid-table words 1 n (λ j m. pastLast (anchoredTo bounds first second j) m) few (was .long) (omega arith) (λ j h. (done j h) .middle)
+      laid-table words middlesIn n (λ j m. pastLast (anchoredTo bounds first second j) m) few (was .long) (omega arith) (λ j h. (done j h) .middle)
       (past-still (anchoredTo bounds first second) n later beyond) (past-none (anchoredTo bounds first second) n later beyond);
-  highs = laid-table words 2 n (λ j m. pastLast (unitTo bounds second j) m) few (was .long) (omega arith) (λ j h. (done j h) .high)
+  highs = laid-table words highsIn n (λ j m. pastLast (unitTo bounds second j) m) few (was .long) (omega arith) (λ j h. (done j h) .high)
       (past-still (unitTo bounds second) n (none-later bounds second increasing) (none-beyond bounds second))
       (past-none (unitTo bounds second) n (none-later bounds second increasing) (none-beyond bounds second));
   whole = was .long;
@@ -334,7 +335,7 @@ origins-end {bounds} {first} {second} {words} {i} increasing few was all = recor
     n : ℕ
     n = length bounds
 
-    done : (j : ℕ) → j < most → Holds bounds first second words j n
+    done : (j : ℕ) → j < mostBoundaries → Holds bounds first second words j n
     done j h = let e : i ≡ n = omega (arith, was .bounded) in subst (Holds bounds first second words j) e (was .done j h)
 
     later : (i j : ℕ) → j ≤ i → i < n → anchoredTo bounds first second j i ≡ false
@@ -346,14 +347,14 @@ origins-end {bounds} {first} {second} {words} {i} increasing few was all = recor
 -- ---- the tables by other tests that say the same of each boundary and an earlier one
 
 module _ (tests tests′ : ℕ → ℕ → Bool) (n : ℕ) (same : (i j : ℕ) → i < j → j < n → tests j i ≡ tests′ j i) where
-  pub lows-same : tableOf (λ j. firstFrom 0 (tests j) 0 j) n most 0 ≡ tableOf (λ j. firstFrom 0 (tests′ j) 0 j) n most 0
+  pub lows-same : tableOf (λ j. firstFrom 0 (tests j) 0 j) n mostBoundaries 0 ≡ tableOf (λ j. firstFrom 0 (tests′ j) 0 j) n mostBoundaries 0
   lows-same =
-      table-same (λ j. firstFrom 0 (tests j) 0 j) (λ j. firstFrom 0 (tests′ j) 0 j) n most 0
+      table-same (λ j. firstFrom 0 (tests j) 0 j) (λ j. firstFrom 0 (tests′ j) 0 j) n mostBoundaries 0
       (λ j h. first-same 0 (tests j) (tests′ j) 0 j (λ i _ k. same i j (omega arith) h))
 
-  pub ends-same : tableOf (λ j. pastLast (tests j) j) n most 0 ≡ tableOf (λ j. pastLast (tests′ j) j) n most 0
+  pub ends-same : tableOf (λ j. pastLast (tests j) j) n mostBoundaries 0 ≡ tableOf (λ j. pastLast (tests′ j) j) n mostBoundaries 0
   ends-same =
-      table-same (λ j. pastLast (tests j) j) (λ j. pastLast (tests′ j) j) n most 0
+      table-same (λ j. pastLast (tests j) j) (λ j. pastLast (tests′ j) j) n mostBoundaries 0
       (λ j h. past-same (tests j) (tests′ j) j (λ i k. same i j k h))
 
 -- by other names of the two frames ahead of each boundary
@@ -375,25 +376,25 @@ ranged-by {bounds} {first} {second} {first′} {second′} firsts seconds ranged
 
 -- ---- where the origins end
 
-entries-earlier : (tests : ℕ → ℕ → Bool) (n : ℕ) (ends : List ℕ) → ends ≡ tableOf (λ j. pastLast (tests j) j) n most 0 → (j : ℕ) → j < n
+entries-earlier : (tests : ℕ → ℕ → Bool) (n : ℕ) (ends : List ℕ) → ends ≡ tableOf (λ j. pastLast (tests j) j) n mostBoundaries 0 → (j : ℕ) → j < n
     → entryOf ends j ≤ j
 entries-earlier tests n ends e j h =
-    omega (arith, ap (λ (l : List ℕ). entryOf l j) e ∙ table-at (λ i. pastLast (tests i) i) n most 0 0 j h, past-le (tests j) j)
+    omega (arith, ap (λ (l : List ℕ). entryOf l j) e ∙ table-at (λ i. pastLast (tests i) i) n mostBoundaries 0 0 j h, past-le (tests j) j)
 
-pub ranged-ends : {bounds : List ℕ} {first second : ℕ → ℕ} {words : List ℕ} → length bounds ≤ most → Ranged bounds first second words
-    → Ends (tableAt 0 words) (tableAt 1 words) (length bounds) × Ends (tableAt 0 words) (tableAt 2 words) (length bounds)
+pub ranged-ends : {bounds : List ℕ} {first second : ℕ → ℕ} {words : List ℕ} → length bounds ≤ mostBoundaries → Ranged bounds first second words
+    → Ends (tableAt lowsIn words) (tableAt middlesIn words) (length bounds) × Ends (tableAt lowsIn words) (tableAt highsIn words) (length bounds)
 ranged-ends {bounds} {first} {second} {words} few ranged = (
   record {
-    lows = long 0 (omega arith);
-    tops = long 1 (omega arith);
-    earlier = entries-earlier (anchoredTo bounds first second) (length bounds) (tableAt 1 words) (ranged .middles);
+    lows = long lowsIn (omega arith);
+    tops = long middlesIn (omega arith);
+    earlier = entries-earlier (anchoredTo bounds first second) (length bounds) (tableAt middlesIn words) (ranged .middles);
   },
   record {
-    lows = long 0 (omega arith);
-    tops = long 2 (omega arith);
-    earlier = entries-earlier (unitTo bounds second) (length bounds) (tableAt 2 words) (ranged .highs);
+    lows = long lowsIn (omega arith);
+    tops = long highsIn (omega arith);
+    earlier = entries-earlier (unitTo bounds second) (length bounds) (tableAt highsIn words) (ranged .highs);
   },
 )
   where
-    long : (k : ℕ) → k < 3 → length bounds ≤ length (tableAt k words)
-    long k h = omega (arith, few, length-take-le most (drop (k * most) words) (omega (arith, length-drop (k * most) words, ranged .whole)))
+    long : (at : ℕ) → at + mostBoundaries ≤ originsLong → length bounds ≤ length (tableAt at words)
+    long at h = omega (arith, few, length-take-le mostBoundaries (drop at words) (omega (arith, length-drop at words, ranged .whole)))

@@ -10,8 +10,8 @@ use Rattle.laws.proofs.Numbers.{by-order}
 use Rattle.laws.proofs.Listed.{length-listed, getD-listed, written-table, length-table}
 use Rattle.laws.proofs.Lists.{drop-replicate}
 use Rattle.laws.specs.Listed.{listed, tableOf, written}
-use Rattle.stages.specs.Room.{most}
-use Rattle.stages.specs.Tables.{tableAt}
+use Rattle.limits.specs.Capacity.{mostBoundaries}
+use Rattle.stages.specs.Lists.{tableAt}
 
 module _ {A : Type 0} where
   take-replicate : (n size : ℕ) (x : A) → n ≤ size → take n (replicate size x) ≡ replicate n x
@@ -135,43 +135,43 @@ written-whole list old long =
 
 -- A list of m tables of which k are laid, while the others hold the spare value only.
 pub record Laying {A : Type 0} (spare : A) (m : ℕ) (table : ℕ → List A) (k : ℕ) (l : List A) : Type 0 where
-  pub long : length l ≡ m * most
-  pub laid : (j : ℕ) → j < k → tableAt j l ≡ table j
-  pub fresh : (j : ℕ) → k ≤ j → j < m → tableAt j l ≡ replicate most spare
+  pub long : length l ≡ m * mostBoundaries
+  pub laid : (j : ℕ) → j < k → tableAt (j * mostBoundaries) l ≡ table j
+  pub fresh : (j : ℕ) → k ≤ j → j < m → tableAt (j * mostBoundaries) l ≡ replicate mostBoundaries spare
 
 module _ {A : Type 0} {spare : A} {m : ℕ} {table : ℕ → List A} where
-  pub laying-none : {l : List A} {size : ℕ} → l ≡ replicate size spare → size ≡ m * most → Laying spare m table 0 l
+  pub laying-none : {l : List A} {size : ℕ} → l ≡ replicate size spare → size ≡ m * mostBoundaries → Laying spare m table 0 l
   laying-none {l} {size} e s = record {
     long = ap length e ∙ length-replicate size spare ∙ s;
     laid = λ j h. absurd (none j h);
     fresh = λ j _ h.
-        ap (tableAt j) e ∙ ap (take most) (drop-replicate (j * most) size spare)
-        ∙ take-replicate most (size - j * most) spare (omega arith);
+        ap (tableAt (j * mostBoundaries)) e ∙ ap (take mostBoundaries) (drop-replicate (j * mostBoundaries) size spare)
+        ∙ take-replicate mostBoundaries (size - j * mostBoundaries) spare (omega arith);
   }
     where
       none : (j : ℕ) → j < 0 → ⊥
       none j h = omega arith
 
-  pub laying-long : {k : ℕ} {l : List A} → Laying spare m table k l → k < m → length (tableAt k l) ≡ most
-  laying-long {k} {l} laying h = ap length (laying .fresh k (omega arith) h) ∙ length-replicate most spare
+  pub laying-long : {k : ℕ} {l : List A} → Laying spare m table k l → k < m → length (tableAt (k * mostBoundaries) l) ≡ mostBoundaries
+  laying-long {k} {l} laying h = ap length (laying .fresh k (omega arith) h) ∙ length-replicate mostBoundaries spare
 
-  pub laying-next : {k n : ℕ} {l out : List A} (g : ℕ → A) → Laying spare m table k l → k < m → n ≤ most
-      → out ≡ written g n (tableAt k l) → tableOf g n most spare ≡ table k → Laying spare m table (k + 1) (putMid (k * most) most l out)
+  pub laying-next : {k n : ℕ} {l out : List A} (g : ℕ → A) → Laying spare m table k l → k < m → n ≤ mostBoundaries
+      → out ≡ written g n (tableAt (k * mostBoundaries) l) → tableOf g n mostBoundaries spare ≡ table k → Laying spare m table (k + 1) (putMid (k * mostBoundaries) mostBoundaries l out)
   laying-next {k} {n} {l} {out} g laying h few e is = record {
-    long = same-len-mid (k * most) most l out (ap length filled ∙ length-table g n most spare few ∙ sym (laying-long laying h))
+    long = same-len-mid (k * mostBoundaries) mostBoundaries l out (ap length filled ∙ length-table g n mostBoundaries spare few ∙ sym (laying-long laying h))
         ∙ laying .long;
     laid = λ j before. by-order j k
-        (λ less. put-before (k * most) most (j * most) most l out (omega arith) (omega (arith, laying .long)) ∙ laying .laid j less)
+        (λ less. put-before (k * mostBoundaries) mostBoundaries (j * mostBoundaries) mostBoundaries l out (omega arith) (omega (arith, laying .long)) ∙ laying .laid j less)
         (λ more.
         let here : j ≡ k = omega arith in
-        ap (λ (i : ℕ). tableAt i (putMid (k * most) most l out)) here
-        ∙ put-here (k * most) most l out (omega (arith, laying .long)) full ∙ filled ∙ is ∙ ap table (sym here));
+        ap (λ (i : ℕ). tableAt (i * mostBoundaries) (putMid (k * mostBoundaries) mostBoundaries l out)) here
+        ∙ put-here (k * mostBoundaries) mostBoundaries l out (omega (arith, laying .long)) full ∙ filled ∙ is ∙ ap table (sym here));
     fresh = λ j after within.
-        put-after (k * most) most (j * most) most l out (omega arith) (omega (arith, laying .long)) full ∙ laying .fresh j (omega arith) within;
+        put-after (k * mostBoundaries) mostBoundaries (j * mostBoundaries) mostBoundaries l out (omega arith) (omega (arith, laying .long)) full ∙ laying .fresh j (omega arith) within;
   }
     where
-      filled : out ≡ tableOf g n most spare
-      filled = e ∙ ap (written g n) (laying .fresh k (omega arith) h) ∙ written-table g n most spare
+      filled : out ≡ tableOf g n mostBoundaries spare
+      filled = e ∙ ap (written g n) (laying .fresh k (omega arith) h) ∙ written-table g n mostBoundaries spare
 
-      full : length out ≡ most
-      full = ap length filled ∙ length-table g n most spare few
+      full : length out ≡ mostBoundaries
+      full = ap length filled ∙ length-table g n mostBoundaries spare few

@@ -7,7 +7,7 @@ use lib.Ieee.{Float, binary64, ofBits, neg}
 use Rattle.laws.specs.Listed.{tableOf}
 use Rattle.phrase.specs.declared.costs.Costs.{Costs}
 use Rattle.phrase.specs.Filler.{fillerCost}
-use Rattle.stages.specs.Room.{most}
+use Rattle.limits.specs.Capacity.{mostBoundaries}
 
 -- The count before edge j is not below that before edge i.
 pub record Rises (counts : List ℕ) (i j : ℕ) : Type 0 where
@@ -37,6 +37,6 @@ noCost = ofBits binary64 0
 
 -- the costs at the first `done` boundaries, where the edge `last` is the mask's end
 pub record Priced (costs : Costs) (speech nuclei : List ℕ) (last done : ℕ) (start gap stop : List Float) : Type 0 where
-  pub started : start ≡ tableOf (startAt costs speech nuclei) done most noCost
-  pub gapped : gap ≡ tableOf (λ j. stretch costs speech nuclei j (j + 1)) done most noCost
-  pub stopped : stop ≡ tableOf (λ j. stretch costs speech nuclei j last) done most noCost
+  pub started : start ≡ tableOf (startAt costs speech nuclei) done mostBoundaries noCost
+  pub gapped : gap ≡ tableOf (λ j. stretch costs speech nuclei j (j + 1)) done mostBoundaries noCost
+  pub stopped : stop ≡ tableOf (λ j. stretch costs speech nuclei j last) done mostBoundaries noCost

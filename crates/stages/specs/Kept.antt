@@ -5,8 +5,8 @@ use mathlib.Core.List.{List, map}
 use lib.ListN.{length}
 use Rattle.laws.specs.Listed.{padded}
 use Rattle.paths.specs.Anchors.{Anchor}
-use Rattle.stages.specs.Room.{room}
-use Rattle.stages.specs.Tables.{beyond}
+use Rattle.limits.specs.Capacity.{anchorRoom}
+use Rattle.limits.specs.Common.{absent}
 
 abbrev pub framesOf : List Anchor → List ℕ
 framesOf anchors = map (λ anchor. anchor .frame) anchors
@@ -16,5 +16,5 @@ rowsOf anchors = map (λ anchor. anchor .row) anchors
 
 pub record Keeps (anchors : List Anchor) (count : ℕ) (frames rows : List ℕ) : Type 0 where
   pub counted : count ≡ length anchors
-  pub framed : frames ≡ padded (framesOf anchors) room beyond
-  pub rowed : rows ≡ padded (rowsOf anchors) room 0
+  pub framed : frames ≡ padded (framesOf anchors) anchorRoom absent
+  pub rowed : rows ≡ padded (rowsOf anchors) anchorRoom 0

@@ -7,9 +7,9 @@ use lib.Dec.{ltb}
 use lib.ListN.{length}
 use Rattle.laws.specs.Listed.{padded, tableOf}
 use Rattle.paths.specs.Anchors.{Anchor}
-use Rattle.stages.specs.Room.{edges, room}
+use Rattle.limits.specs.Capacity.{mostEdges, anchorRoom}
 use Rattle.stages.specs.Kept.{framesOf, rowsOf}
-use Rattle.stages.specs.Tables.{beyond}
+use Rattle.limits.specs.Common.{absent}
 use Rattle.stages.specs.Edges.{edge}
 
 -- frames that ascend from `low` to `high`
@@ -23,10 +23,10 @@ countBelow (frame ∷ frames) bound = let rest = countBelow frames bound in cond
 
 -- how many frames are below boundary j, or after the boundaries how many there are
 abbrev pub placeBefore : List ℕ → List ℕ → ℕ → ℕ
-placeBefore frames bounds j = countBelow frames (edge bounds beyond j)
+placeBefore frames bounds j = countBelow frames (edge bounds absent j)
 
 -- the kept anchors in arrays, and the place of each boundary among them
 pub record AnchorsPlaced (anchors : List Anchor) (bounds frames rows places : List ℕ) : Type 0 where
-  pub framed : frames ≡ padded (framesOf anchors) room beyond
-  pub rowed : rows ≡ padded (rowsOf anchors) room 0
-  pub placed : places ≡ tableOf (placeBefore frames bounds) (length bounds + 1) edges 0
+  pub framed : frames ≡ padded (framesOf anchors) anchorRoom absent
+  pub rowed : rows ≡ padded (rowsOf anchors) anchorRoom 0
+  pub placed : places ≡ tableOf (placeBefore frames bounds) (length bounds + 1) mostEdges 0

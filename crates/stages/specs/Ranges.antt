@@ -1,16 +1,16 @@
 -- The origins of the units that end at each boundary, by the frames of the first two kept anchors at or after each origin, and what is
 -- asked of them for the first boundary that each count of units reaches.
-use Prim.Native.Nat.{ℕ, _+_, _-_, _*_, _≤_, _<_}
+use Prim.Native.Nat.{ℕ, _+_, _-_, _≤_, _<_}
 use mathlib.Core.Bool.{Bool, cond, _&&_}
 use mathlib.Core.List.{List}
 use mathlib.Core.Path.{_≡_}
 use lib.Dec.{eqb, leb, ltb}
 use lib.ListN.{length, getD, set}
 use Rattle.laws.specs.Listed.{tableOf}
-use Rattle.laws.specs.Range.{firstFrom, pastLast}
+use Rattle.laws.specs.inner.Range.{firstFrom, pastLast}
 use Rattle.paths.specs.Units.{fitsUnit}
-use Rattle.stages.specs.Room.{most}
-use Rattle.stages.specs.Tables.{tableAt}
+use Rattle.limits.specs.Capacity.{mostBoundaries}
+use Rattle.stages.specs.Lists.{originsLong, lowsIn, middlesIn, highsIn, tableAt}
 
 abbrev pub entryOf : List ℕ → ℕ → ℕ
 entryOf table j = getD table j 0
@@ -26,17 +26,17 @@ anchoredTo bounds first second j i = unitTo bounds second j i && ltb (first i) (
 -- Three tables, one after the other: of each boundary the lowest origin, and one past the highest of those whose units hold an anchor
 -- and of all.
 pub record Ranged (bounds : List ℕ) (first second : ℕ → ℕ) (words : List ℕ) : Type 0 where
-  pub lows : tableAt 0 words ≡ tableOf (λ j. firstFrom 0 (unitTo bounds second j) 0 j) (length bounds) most 0
-  pub middles : tableAt 1 words ≡ tableOf (λ j. pastLast (anchoredTo bounds first second j) j) (length bounds) most 0
-  pub highs : tableAt 2 words ≡ tableOf (λ j. pastLast (unitTo bounds second j) j) (length bounds) most 0
-  pub whole : length words ≡ 3 * most
+  pub lows : tableAt lowsIn words ≡ tableOf (λ j. firstFrom 0 (unitTo bounds second j) 0 j) (length bounds) mostBoundaries 0
+  pub middles : tableAt middlesIn words ≡ tableOf (λ j. pastLast (anchoredTo bounds first second j) j) (length bounds) mostBoundaries 0
+  pub highs : tableAt highsIn words ≡ tableOf (λ j. pastLast (unitTo bounds second j) j) (length bounds) mostBoundaries 0
+  pub whole : length words ≡ originsLong
 
 -- the tables with an origin i more of boundary j, above those that they have: of a unit that holds an anchor, or of one that holds none
 unfoldable pub withOrigin : List ℕ → ℕ → ℕ → Bool → List ℕ
 withOrigin words i j anchored =
-    let lowest = cond (eqb (getD words (2 * most + j) 0) 0) (set words j i) words in
-    let middle = cond anchored (set lowest (most + j) (i + 1)) lowest in
-    set middle (2 * most + j) (i + 1)
+    let lowest = cond (eqb (getD words (highsIn + j) 0) 0) (set words j i) words in
+    let middle = cond anchored (set lowest (middlesIn + j) (i + 1)) lowest in
+    set middle (highsIn + j) (i + 1)
 
 -- the lowest origins of n boundaries, and where the origins of each end, which is not past the boundary
 pub record Ends (low ends : List ℕ) (n : ℕ) : Type 0 where

@@ -1,12 +1,12 @@
 -- The words of a stage that the search reads, by the place of each boundary among the kept anchors.
-use Prim.Native.Nat.{ℕ, zero, suc, _+_, _*_, _≤_, _<_}
+use Prim.Native.Nat.{ℕ, zero, suc, _+_, _≤_, _<_}
 use mathlib.Core.Path.{_≡_}
 use mathlib.Core.List.{List}
 use lib.ListN.{length, take, drop, replicate}
 use Rattle.laws.specs.Listed.{listed, tableOf}
-use Rattle.paths.specs.Ranges.{firstReached}
-use Rattle.stages.specs.Room.{most, counts}
-use Rattle.stages.specs.Tables.{tableAt}
+use Rattle.paths.specs.inner.Ranges.{firstReached}
+use Rattle.limits.specs.Capacity.{mostBoundaries, unitCounts}
+use Rattle.stages.specs.Lists.{boundsAt, lowsAt, middlesAt, highsAt, rowsAt, spanStartsAt, sinceStrictAt, sinceRelaxedAt, wordsLong, originsLong, spansLong, tableAt, countsAt}
 use Rattle.stages.specs.Ranges.{entryOf, Ranged}
 
 -- the first n places are places of a list of this length
@@ -25,17 +25,17 @@ abbrev pub entryBefore : List ℕ → ℕ → ℕ
 entryBefore list zero = 0
 entryBefore list (suc place) = entryOf list place
 
--- what each count of units reaches, where the table k of the words says where the origins end
+-- what each count of units reaches, where the table at a place of the words says where the origins end
 abbrev pub reachedBy : List ℕ → ℕ → ℕ → List ℕ
-reachedBy words k n = listed (firstReached (entryOf (tableAt 1 words)) (entryOf (tableAt k words)) n) counts
+reachedBy words ends n = listed (firstReached (entryOf (tableAt lowsAt words)) (entryOf (tableAt ends words)) n) unitCounts
 
 -- every word, where those of the spans are still 0
 pub record Lays (frames rows places bounds words : List ℕ) : Type 0 where
-  pub bounded : tableAt 0 words ≡ tableOf (entryOf bounds) (length bounds) most 0
+  pub bounded : tableAt boundsAt words ≡ tableOf (entryOf bounds) (length bounds) mostBoundaries 0
   pub ranged : Ranged bounds (λ j. entryOf frames (entryOf places j)) (λ j. entryOf frames (entryOf places j + 1))
-      (take (3 * most) (drop most words))
-  pub ranks : tableAt 4 words ≡ tableOf (λ j. entryBefore rows (entryOf places j)) (length bounds) most 0
-  pub spare : take (2 * most) (drop (5 * most) words) ≡ replicate (2 * most) 0
-  pub strict : take counts (drop (7 * most) words) ≡ reachedBy words 2 (length bounds)
-  pub relaxed : take counts (drop (7 * most + counts) words) ≡ reachedBy words 3 (length bounds)
-  pub whole : length words ≡ 7 * most + 2 * counts
+      (take originsLong (drop lowsAt words))
+  pub ranks : tableAt rowsAt words ≡ tableOf (λ j. entryBefore rows (entryOf places j)) (length bounds) mostBoundaries 0
+  pub spare : take spansLong (drop spanStartsAt words) ≡ replicate spansLong 0
+  pub strict : countsAt sinceStrictAt words ≡ reachedBy words middlesAt (length bounds)
+  pub relaxed : countsAt sinceRelaxedAt words ≡ reachedBy words highsAt (length bounds)
+  pub whole : length words ≡ wordsLong

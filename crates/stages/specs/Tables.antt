@@ -1,22 +1,19 @@
 -- What the tables of a stage hold: for each boundary the figures of the stage's problem, the
 -- origins of the units that end there; and for each count of units the first boundary reached.
-use Prim.Native.Nat.{ℕ, suc, _+_, _*_, _-_, _≤_, _<_}
+use Prim.Native.Nat.{ℕ, suc, _-_, _≤_, _<_}
 use mathlib.Core.List.{List}
 use mathlib.Core.Path.{_≡_}
-use lib.ListN.{length, getD, take, drop}
+use lib.ListN.{length, getD}
 use lib.Ieee.{Float, nan, neg}
 use Rattle.phrase.specs.Phrase.{Phrase, Stage}
 use Rattle.paths.specs.Anchors.{kept}
-use Rattle.paths.specs.Units.{shortestUnit, longestUnit}
+use Rattle.limits.specs.Common.{shortestUnit, longestUnit}
 use Rattle.paths.specs.declared.passes.Strictness.{Strictness}
 use Rattle.paths.specs.declared.passes.Strictness.the-variants.{Strict, Relaxed}
-use Rattle.paths.specs.Ranges.{lowOrigin, originsEnd, firstReached, rowBefore}
+use Rattle.paths.specs.inner.Ranges.{lowOrigin, originsEnd, firstReached, rowBefore}
 use Rattle.paths.specs.StageProblem.{cost, boundary}
-use Rattle.stages.specs.Room.{most, counts}
-
--- a frame that no boundary passes, where there is no anchor ahead
-abbrev pub beyond : ℕ
-beyond = 4294967295
+use Rattle.limits.specs.Capacity.{unitCounts}
+use Rattle.stages.specs.Lists.{boundsAt, lowsAt, middlesAt, highsAt, rowsAt, sinceStrictAt, sinceRelaxedAt, startsAt, gapsAt, stopsAt, tableAt, countsAt, durationsIn}
 
 -- For each boundary its frame; the filler costs of the start (negated), of the gap to the next boundary and of the end; of the units that end
 -- there the lowest origin, and one past the highest of those that hold an anchor and of all; and the score row of the last kept anchor
@@ -59,27 +56,22 @@ pub record Tabled (phrase : Phrase) (stage : Stage) (t : StageTables) : Type 0 w
   pub lows : (j : ℕ) → j < t .size → getD (t .low) j 0 ≡ lowOrigin (kept phrase stage) (stage .boundaries) j
   pub ends : (strictness : Strictness) (j : ℕ) → j < t .size → getD (endsIn t strictness) j 0 ≡ originsEnd strictness (kept phrase stage) (stage .boundaries) j
   pub rows : (j : ℕ) → j < t .size → getD (t .row) j 0 ≡ rowBefore 0 (kept phrase stage) (boundary stage j)
-  pub sinces : (strictness : Strictness) (s : ℕ) → s < counts → getD (sinceIn t strictness) s 0 ≡ reachedIn phrase stage strictness s
+  pub sinces : (strictness : Strictness) (s : ℕ) → s < unitCounts → getD (sinceIn t strictness) s 0 ≡ reachedIn phrase stage strictness s
   pub durations : (d : ℕ) → shortestUnit ≤ d → d ≤ longestUnit → getD (t .duration) (d - shortestUnit) nan ≡ stage .duration d
 
--- The tables of a stage stand one after the other in two lists, of words and of figures: table k of those with an entry for each boundary,
-abbrev pub tableAt : {A : Type 0} → ℕ → List A → List A
-tableAt k entries = take most (drop (k * most) entries)
-
--- Of the words those of the boundaries come first, then those of their origins and rows, and after the spans (tables 5 and 6) what each
--- count reaches; last among the figures are the durations.
+-- the tables that stand one after the other in two lists, of words and of figures
 abbrev pub tablesIn : ℕ → List ℕ → List Float → StageTables
 tablesIn size words figures = record {
   size = size;
-  bounds = tableAt 0 words;
-  start = tableAt 0 figures;
-  gap = tableAt 1 figures;
-  stop = tableAt 2 figures;
-  low = tableAt 1 words;
-  middle = tableAt 2 words;
-  high = tableAt 3 words;
-  row = tableAt 4 words;
-  sinceStrict = take counts (drop (7 * most) words);
-  sinceRelaxed = take counts (drop (7 * most + counts) words);
-  duration = take 75 (drop (3 * most) figures);
+  bounds = tableAt boundsAt words;
+  start = tableAt startsAt figures;
+  gap = tableAt gapsAt figures;
+  stop = tableAt stopsAt figures;
+  low = tableAt lowsAt words;
+  middle = tableAt middlesAt words;
+  high = tableAt highsAt words;
+  row = tableAt rowsAt words;
+  sinceStrict = countsAt sinceStrictAt words;
+  sinceRelaxed = countsAt sinceRelaxedAt words;
+  duration = durationsIn figures;
 }

@@ -1,22 +1,24 @@
 // The filler costs of a stage, from the counts before its boundaries, after `Filler::cost` of closed.rs.
 
-use crate::anchors::BEYOND;
 use crate::anchors::place_anchors;
 use crate::clear::clear_figures;
 use crate::counts::count_speech;
 use crate::lists::DURATION;
 use crate::lists::GAP;
 use crate::lists::STOP;
+use limits::capacity::ANCHOR_ROOM;
+use limits::capacity::MOST_EDGES;
+use limits::common::ABSENT;
 use phrase::costs::Costs;
 ghost use mathlib.Core.Path.{_≡_};
-ghost use Prim.Native.Nat.{_+_, _*_, _≤_};
+ghost use Prim.Native.Nat.{_+_, _≤_};
 ghost use lib.ListN.{length};
 ghost use Rattle.paths.specs.Anchors.{keptIn};
-ghost use Rattle.stages.specs.Room.{most};
+ghost use Rattle.limits.specs.Capacity.{mostAnchors, mostBoundaries};
 ghost use Rattle.stages.specs.Parts.{Fit, FitList, Fills};
 ghost use Rattle.stages.specs.Filler.{Rises, Counts, stretch, startAt, Priced};
 ghost use Rattle.laws.specs.Listed.{written};
-ghost use Rattle.stages.specs.Tables.{tableAt};
+ghost use Rattle.stages.specs.Lists.{fillerLong, gapsAt, startsAt, stopsAt, tableAt};
 
 // The cost of the stretch from edge `i` to edge `j`, of which `speech` and `nuclei` have the counts before each edge.
 fn stretch_cost(speech: &[u32], nuclei: &[u32], i: usize, j: usize, costs: Costs) -> f64
@@ -64,8 +66,8 @@ fn stop_costs(speech: &[u32], nuclei: &[u32], n: usize, costs: Costs, out: &mut 
 
 // The three tables, one after the other.
 fn lay_costs(speech: &[u32], nuclei: &[u32], n: usize, costs: Costs, figures: &mut [f64])
-    requires { ⌜ Counts (now speech) (now nuclei) n × (n ≤ most) × (length (now figures) ≡ 3 * most) ⌝ }
-    ensures { λ _. ⌜ Priced costs (now (speech .entry)) (now (nuclei .entry)) n n (tableAt 0 (now (figures .exit))) (tableAt 1 (now (figures .exit))) (tableAt 2 (now (figures .exit))) ⌝ }
+    requires { ⌜ Counts (now speech) (now nuclei) n × (n ≤ mostBoundaries) × (length (now figures) ≡ fillerLong) ⌝ }
+    ensures { λ _. ⌜ Priced costs (now (speech .entry)) (now (nuclei .entry)) n n (tableAt startsAt (now (figures .exit))) (tableAt gapsAt (now (figures .exit))) (tableAt stopsAt (now (figures .exit))) ⌝ }
 {
     clear_figures(figures);
     start_costs(speech, nuclei, n, costs, &mut figures[0..GAP]);
@@ -75,13 +77,13 @@ fn lay_costs(speech: &[u32], nuclei: &[u32], n: usize, costs: Costs, figures: &m
 
 // The filler costs of a stage with these boundaries. The nuclei are the record's, whatever the stage.
 pub fn lay_filler(mask: &[u8], nuclei: &[u32], bounds: &[u32], costs: Costs, figures: &mut [f64])
-    requires { ⌜ Fit (now mask) (now bounds) × FitList (now nuclei) × (length (now figures) ≡ 3 * most) ⌝ }
-    ensures { λ _. ⌜ Fills costs (now (mask .entry)) (keptIn (now (mask .entry)) 0 (now (nuclei .entry))) (now (bounds .entry)) (tableAt 0 (now (figures .exit))) (tableAt 1 (now (figures .exit))) (tableAt 2 (now (figures .exit))) ⌝ }
+    requires { ⌜ Fit (now mask) (now bounds) × FitList mostAnchors (now nuclei) × (length (now figures) ≡ fillerLong) ⌝ }
+    ensures { λ _. ⌜ Fills costs (now (mask .entry)) (keptIn (now (mask .entry)) 0 (now (nuclei .entry))) (now (bounds .entry)) (tableAt startsAt (now (figures .exit))) (tableAt gapsAt (now (figures .exit))) (tableAt stopsAt (now (figures .exit))) ⌝ }
 {
-    let mut frames = [BEYOND; 66];
-    let mut rows = [0u32; 66];
-    let mut inserted = [0u32; 65];
-    let mut speech = [0u32; 65];
+    let mut frames = [ABSENT; ANCHOR_ROOM];
+    let mut rows = [0u32; ANCHOR_ROOM];
+    let mut inserted = [0u32; MOST_EDGES];
+    let mut speech = [0u32; MOST_EDGES];
     place_anchors(
         mask,
         nuclei,

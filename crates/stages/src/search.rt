@@ -11,13 +11,15 @@ use crate::lists::SPAN_START;
 use crate::lists::WORDS;
 use crate::ranges::lay_ranges;
 use crate::since::lay_since;
+use limits::capacity::MOST_BOUNDARIES;
+use limits::capacity::UNIT_COUNTS;
 ghost use mathlib.Core.List.{_++_};
 ghost use mathlib.Core.Path.{_≡_};
-ghost use Prim.Native.Nat.{_+_, _*_, _<_, _≤_};
+ghost use Prim.Native.Nat.{_+_, _<_, _≤_};
 ghost use lib.ListN.{length, take, replicate};
-ghost use Rattle.stages.specs.Room.{most, counts};
+ghost use Rattle.limits.specs.Capacity.{mostBoundaries};
 ghost use Rattle.laws.specs.Listed.{written};
-ghost use Rattle.stages.specs.Tables.{tableAt};
+ghost use Rattle.stages.specs.Lists.{lowsAt, middlesAt, highsAt, sinceStrictAt, wordsLong, originsLong, tableAt};
 ghost use Rattle.stages.specs.Parts.{FitList};
 ghost use Rattle.stages.specs.Ranges.{entryOf, Ranged, Ends};
 ghost use Rattle.stages.specs.Search.{Within, Reaches, entryBefore, reachedBy, Lays};
@@ -61,12 +63,12 @@ fn copy(list: &[u32], out: &mut [u32])
 
 // The origins of the units that end at each boundary, from the place of each boundary among the kept anchors.
 fn lay_origins(frames: &[u32], places: &[u32], bounds: &[u32], words: &mut [u32])
-    requires { ⌜ Within (now frames) (now places) (length (now bounds)) × FitList (now bounds) × (now words ≡ replicate (3 * most) 0) ⌝ }
+    requires { ⌜ Within (now frames) (now places) (length (now bounds)) × FitList mostBoundaries (now bounds) × (now words ≡ replicate originsLong 0) ⌝ }
     ensures { λ _. ⌜ Ranged (now (bounds .entry)) (λ j. entryOf (now (frames .entry)) (entryOf (now (places .entry)) j)) (λ j. entryOf (now (frames .entry)) (entryOf (now (places .entry)) j + 1)) (now (words .exit)) ⌝ }
 {
     let n = bounds.len();
-    let mut first = [0u32; 64];
-    let mut second = [0u32; 64];
+    let mut first = [0u32; MOST_BOUNDARIES];
+    let mut second = [0u32; MOST_BOUNDARIES];
     pick(frames, places, n, &mut first);
     pick(&frames[1..], places, n, &mut second);
     lay_ranges(bounds, &first, &second, words);
@@ -74,10 +76,10 @@ fn lay_origins(frames: &[u32], places: &[u32], bounds: &[u32], words: &mut [u32]
 
 // What each count of units reaches, from the origins that are laid.
 fn lay_counts(n: usize, words: &mut [u32])
-    requires { ⌜ Ends (tableAt 1 (now words)) (tableAt 2 (now words)) n × Ends (tableAt 1 (now words)) (tableAt 3 (now words)) n × (n ≤ most) × (length (now words) ≡ 7 * most + 2 * counts) ⌝ }
-    ensures { λ _. ⌜ now (words .exit) ≡ take (7 * most) (now (words .entry)) ++ reachedBy (now (words .entry)) 2 n ++ reachedBy (now (words .entry)) 3 n ⌝ }
+    requires { ⌜ Ends (tableAt lowsAt (now words)) (tableAt middlesAt (now words)) n × Ends (tableAt lowsAt (now words)) (tableAt highsAt (now words)) n × (n ≤ mostBoundaries) × (length (now words) ≡ wordsLong) ⌝ }
+    ensures { λ _. ⌜ now (words .exit) ≡ take sinceStrictAt (now (words .entry)) ++ reachedBy (now (words .entry)) middlesAt n ++ reachedBy (now (words .entry)) highsAt n ⌝ }
 {
-    let mut since = [0u32; 17];
+    let mut since = [0u32; UNIT_COUNTS];
     lay_since(&words[LOW..MIDDLE], &words[MIDDLE..HIGH], n, &mut since);
     copy(&since, &mut words[SINCE_STRICT..SINCE_RELAXED]);
     lay_since(&words[LOW..MIDDLE], &words[HIGH..ROW], n, &mut since);
@@ -87,7 +89,7 @@ fn lay_counts(n: usize, words: &mut [u32])
 // The boundaries; the origins of the units that end at each; the row of the last kept anchor before it; and what each count of units
 // reaches. From the place of each boundary among the kept anchors.
 pub fn lay_search(frames: &[u32], rows: &[u32], places: &[u32], bounds: &[u32], words: &mut [u32])
-    requires { ⌜ Within (now frames) (now places) (length (now bounds)) × Reaches (now places) (length (now bounds)) (length (now rows) + 1) × FitList (now bounds) × (length (now words) ≡ 7 * most + 2 * counts) ⌝ }
+    requires { ⌜ Within (now frames) (now places) (length (now bounds)) × Reaches (now places) (length (now bounds)) (length (now rows) + 1) × FitList mostBoundaries (now bounds) × (length (now words) ≡ wordsLong) ⌝ }
     ensures { λ _. ⌜ Lays (now (frames .entry)) (now (rows .entry)) (now (places .entry)) (now (bounds .entry)) (now (words .exit)) ⌝ }
 {
     clear_words(words);

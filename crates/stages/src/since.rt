@@ -4,8 +4,8 @@ ghost use mathlib.Core.Path.{_≡_};
 ghost use Prim.Native.Nat.{_<_, _≤_, _^_};
 ghost use lib.ListN.{length};
 ghost use Rattle.laws.specs.Listed.{listed};
-ghost use Rattle.laws.specs.Range.{firstFrom};
-ghost use Rattle.paths.specs.Ranges.{arrivesFrom, firstReached};
+ghost use Rattle.laws.specs.inner.Range.{firstFrom};
+ghost use Rattle.paths.specs.inner.Ranges.{arrivesFrom, firstReached};
 ghost use Rattle.stages.specs.Ranges.{entryOf, Ends};
 
 // The first of `n` boundaries to which a unit goes from one that is not before `from`; `n` where there is none. Nothing goes from there

@@ -7,7 +7,7 @@ use lib.ListN.{length, getD, set, drop, length-append, drop-of-length-le}
 use lib.Seq.{sets, length-sets}
 use Rattle.laws.proofs.Lists.{left-from}
 use Rattle.laws.proofs.Stores.{sets-append}
-use Rattle.text.specs.Puts.{Puts}
+use Rattle.text.specs.inner.Puts.{Puts}
 
 pub nothing : (out : List ℕ) (at : ℕ) → Puts 0 out at [] out at
 nothing out at = record { written = refl; after = omega arith; short = omega arith }

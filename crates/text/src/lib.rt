@@ -5,7 +5,7 @@ use io::hex;
 ghost use Prim.Native.Nat.{_+_, _≤_};
 ghost use lib.ListN.{length};
 ghost use Rattle.text.specs.Ascii.{decimal as Ascii·decimal, hexadecimal};
-ghost use Rattle.text.specs.Puts.{Puts};
+ghost use Rattle.text.specs.inner.Puts.{Puts};
 
 // How many hexadecimal digits a u32 is written with.
 const HEXADECIMAL_DIGITS: usize = 8;

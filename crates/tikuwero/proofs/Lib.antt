@@ -2,3 +2,4 @@
 pub mod Numbers
 mod Given
 mod Limits
+mod OneOutcome

@@ -1,19 +1,23 @@
 -- The values and the refusals that are returned are small numbers.
-use Prim.Native.Nat.{ℕ, _*_, _≤_, zero-le}
-use mathlib.Core.Bool.{Bool, true, false, _||_, cond}
-use mathlib.Core.List.{List}
+use Prim.Native.Nat.{ℕ, _≤_, zero-le}
+use mathlib.Core.Bool.{false}
+use mathlib.Core.List.{List, _∷_}
 use mathlib.Core.Path.{_≡_, refl, sym, subst}
 use mathlib.Core.Option.{Option, none, some}
 use native.Mathlib.Nat.{le-trans}
 use native.Mathlib.Omega.{arith}
-use lib.Dec.{ltb}
 use lib.ListN.{length}
 use borrow.Author.Tests.{ltb-false}
-use Rattle.frames.specs.Outcome.{Outcome, accepted, refused, anyAbove, lastFrame, mostFrames}
-use Rattle.frames.specs.Frames.{ascending}
+use Rattle.laws.specs.theory.Each.{Each, each-more}
+use Rattle.laws.specs.Rules.{Rule}
+use Rattle.laws.proofs.Rules.{Fails, none-exactly}
+use Rattle.laws.proofs.Choices.{neither-left}
+use Rattle.frames.specs.Outcome.{Outcome, accepted, refused, mostFrames}
+use Rattle.frames.proofs.Outcomes.{accepts-exactly}
 use Rattle.frames.proofs.Ascending.{ascending-le}
 use Rattle.spans.specs.Spans.{tbuSpansOf}
-use Rattle.record.specs.Edition.{edition1}
+use Rattle.limits.specs.Capacity.{mostCandidates}
+use Rattle.limits.proofs.Editions.{moderate}
 use Rattle.record.specs.Layout.{layoutOf}
 use Rattle.record.specs.Meaning.{phraseOf}
 use Rattle.record.specs.Refusals.{numberOf, refusalWith}
@@ -32,31 +36,24 @@ valueOr other (refused number) = other
 pub spans-within : (nuclei bounds : List ℕ) (lo hi room : ℕ) {count : ℕ} → accepted count ≡ tbuSpansOf nuclei bounds lo hi room → count ≤ mostFrames
 unfolding tbuSpansOf
 spans-within nuclei bounds lo hi room {count} e =
-    subst (λ (o : Outcome ℕ). valueOr 0 o ≤ mostFrames) (sym e)
-    (go (ltb mostFrames (length nuclei)) (ltb mostFrames (length bounds))
-    (anyAbove lastFrame nuclei || anyAbove lastFrame bounds || ltb lastFrame lo || ltb lastFrame hi)
-    (ltb room (2 * length (ascending nuclei)))
-    (ltb-false mostFrames (length nuclei)))
+    let h = accepts-exactly _ _ count .0 (sym e) in
+    let few : length nuclei ≤ mostFrames = ltb-false mostFrames (length nuclei) (neither-left _ _ (first (none-exactly _ .0 (h .0)))) in
+    subst (λ (n : ℕ). n ≤ mostFrames) (h .1) (le-trans (ascending-le (length nuclei) 0 nuclei) few)
   where
-    go : (long long′ high short : Bool) → (long ≡ false → length nuclei ≤ mostFrames)
-        → valueOr 0 (cond (long || long′) (refused 3) (cond high (refused 5) (cond short (refused 11) (accepted (length (ascending nuclei)))))) ≤ mostFrames
-    go true long′ high short few = zero-le
-    go false true high short few = zero-le
-    go false false true short few = zero-le
-    go false false false true few = zero-le
-    go false false false false few = le-trans (ascending-le (length nuclei) 0 nuclei) (few refl)
+    first : {r : Rule ℕ} {rs : List (Rule ℕ)} → Each Fails (r ∷ rs) → r .holds ≡ false
+    first (each-more f fs) = f .not-held
 
 -- a count of entries is at most the most candidates of a record
 pub entries-within :
     (bytes : List ℕ) (best back out : ℕ) {count : ℕ} →
-    accepted count ≡ outcomeOf (refusalWith bytes best back out) (length (phraseOf bytes .candidates)) → count ≤ edition1 .candidates
+    accepted count ≡ outcomeOf (refusalWith bytes best back out) (length (phraseOf bytes .candidates)) → count ≤ mostCandidates
 entries-within bytes best back out told =
-    subst (λ (o : Outcome ℕ). valueOr 0 o ≤ edition1 .candidates) (sym told) (go (refusalWith bytes best back out) refl)
+    subst (λ (o : Outcome ℕ). valueOr 0 o ≤ mostCandidates) (sym told) (go (refusalWith bytes best back out) refl)
   where
-    go : (r : Option Refusal) → refusalWith bytes best back out ≡ r → valueOr 0 (outcomeOf r (length (phraseOf bytes .candidates))) ≤ edition1 .candidates
+    go : (r : Option Refusal) → refusalWith bytes best back out ≡ r → valueOr 0 (outcomeOf r (length (phraseOf bytes .candidates))) ≤ mostCandidates
     go none e =
-        subst (λ (m : ℕ). m ≤ edition1 .candidates) (sym (candidates-counted bytes))
-        (counts {bytes = bytes} {at = layoutOf bytes} (record { accepted = own-rules bytes best back out e; layout = refl }) .candidates)
+        subst (λ (m : ℕ). m ≤ mostCandidates) (sym (candidates-counted bytes))
+        (le-trans (counts {bytes = bytes} {at = layoutOf bytes} (record { accepted = own-rules bytes best back out e; layout = refl }) .candidates) (moderate _ .candidates))
     go (some q) e = zero-le
 
 pub number-within : (q : Refusal) → numberOf q ≤ 11

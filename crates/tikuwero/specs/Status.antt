@@ -3,6 +3,7 @@ use Prim.Native.Nat.{ℕ, _+_, _*_}
 use mathlib.Core.Bool.{Bool, cond}
 use lib.Dec.{eqb}
 use lib.IntN.{ℤ, pos, negℤ}
+use Rattle.limits.specs.Common.{absent}
 use Rattle.frames.specs.Outcome.{Outcome, accepted, refused}
 use Rattle.evidence.specs.Joins.{Edges}
 use Rattle.frames.specs.declared.list.Nearest.{Nearest}
@@ -26,9 +27,6 @@ flag yes? = cond yes? 1 0
 abbrev pub edgeFlags : Edges → ℕ
 edgeFlags edges = flag (edges .start) + 2 * flag (edges .end)
 
--- the word that says that there is no next nucleus; every other word is its frame
-abbrev pub noFrame : ℕ
-noFrame = 4294967295
-
+-- the next nucleus by its word, which may say that there is none
 abbrev pub frameOf : ℕ → Nearest
-frameOf word = cond (eqb word noFrame) None (At word)
+frameOf word = cond (eqb word absent) None (At word)

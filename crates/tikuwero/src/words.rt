@@ -1,12 +1,10 @@
 // Words of the C interface for a flag and for a frame that may be missing.
 
 use frames::list::Nearest;
+use limits::common::ABSENT;
 ghost use mathlib.Core.Path.{_≡_};
 ghost use Prim.Native.Nat.{_≤_};
 ghost use Rattle.tikuwero.specs.Status.{flag, frameOf};
-
-// The word for no next nucleus.
-const NO_FRAME: u32 = 4294967295;
 
 pub fn flag(yes: bool) -> u32
     ensures { λ r. ⌜ (r ≡ flag yes) × (r ≤ 1) ⌝ }
@@ -17,7 +15,7 @@ pub fn flag(yes: bool) -> u32
 pub fn frame_of(word: u32) -> Nearest
     ensures { λ r. ⌜ r ≡ frameOf word ⌝ }
 {
-    if word == NO_FRAME {
+    if word == ABSENT {
         Nearest::None
     } else {
         Nearest::At(word)

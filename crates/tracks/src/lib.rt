@@ -1,14 +1,19 @@
 // Refusal 5: the mask, the four frame lists and the speech edges. A section is walked to its end, whatever is found on the way, so
 // that the walk compiles to vector code.
 
+use limits::common::ABSENT;
+use limits::common::LAST_FRAME;
 use record::bytes::byte_at;
 use record::bytes::u32_at;
+use record::format::SPEECH_END_AT;
+use record::format::SPEECH_START_AT;
 use record::layout::Layout;
 use record::layout::Section;
 ghost use mathlib.Core.Path.{_≡_};
 ghost use Prim.Native.Nat.{_+_, _*_, _≤_};
 ghost use lib.ListN.{length};
-ghost use Rattle.record.specs.Bounds.{Within};
+ghost use Rattle.record.specs.inner.Bounds.{Within};
+ghost use Rattle.record.specs.Format.{costsBytes};
 ghost use Rattle.record.specs.Conditions.{badMask, lateFrame, unordered, badList, badEdges, speechStart, speechEnd, badTrack};
 
 fn bad_mask(bytes: &[u8], s: Section) -> bool
@@ -35,7 +40,7 @@ fn late_frame(bytes: &[u8], s: Section) -> bool
     let mut late = false;
     let mut i = 0;
     while i < count {
-        late = late | (u32_at(bytes, start + 4 * i) > 4095);
+        late = late | (u32_at(bytes, start + 4 * i) > LAST_FRAME);
         i += 1;
     }
     late
@@ -71,14 +76,17 @@ fn bad_list(bytes: &[u8], s: Section) -> bool
 fn bad_edges(start: u32, end: u32) -> bool
     ensures { λ r. ⌜ r ≡ badEdges start end ⌝ }
 {
-    !((start == 4294967295) & (end == 4294967295)) & ((end < start) | (end > 4095))
+    !((start == ABSENT) & (end == ABSENT)) & ((end < start) | (end > LAST_FRAME))
 }
 
 fn bad_speech(bytes: &[u8], costs: usize) -> bool
-    requires { ⌜ costs + 1228 ≤ length (now bytes) ⌝ }
+    requires { ⌜ costs + costsBytes ≤ length (now bytes) ⌝ }
     ensures { λ r. ⌜ r ≡ badEdges (speechStart (now (bytes .entry)) costs) (speechEnd (now (bytes .entry)) costs) ⌝ }
 {
-    bad_edges(u32_at(bytes, costs + 20), u32_at(bytes, costs + 24))
+    bad_edges(
+        u32_at(bytes, costs + SPEECH_START_AT),
+        u32_at(bytes, costs + SPEECH_END_AT),
+    )
 }
 
 pub fn bad_track(bytes: &[u8], at: Layout) -> bool

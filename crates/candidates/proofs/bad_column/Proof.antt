@@ -9,7 +9,7 @@ use lib.Dec.{leb}
 use denote.Ref.{now}
 use Rattle.record.specs.Below.{anyBelow}
 use Rattle.record.specs.Conditions.{columnAt}
-use Rattle.record.specs.declared.limits.Limits.{Limits}
+use Rattle.limits.specs.declared.edition.Limits.{Limits}
 use Rattle.record.specs.declared.layout.Layout.{Layout}
 use Rattle.record.proofs.Below.{any-none, any-more, any-found, any-end}
 use Rattle.record.proofs.Entries.{units-most}

@@ -3,14 +3,15 @@ use Prim.Native.Nat.{_-_, _≤_}
 use mathlib.Core.Path.{_≡_, sym, ap, _∙_}
 use mathlib.Core.Option.{Option}
 use native.Mathlib.Omega.{arith}
-use Rattle.record.specs.Refusals.{answer, firstOf, candidateRules}
+use Rattle.laws.specs.Rules.{firstOf}
+use Rattle.record.specs.Refusals.{answer, candidateRules}
 use Rattle.record.specs.declared.refusal.Refusal.{Refusal}
 use Rattle.candidates.proofs.Rules.{rest, rest-all, rest-done, first-twice, first-units, first-column, first-later}
 use Rattle.candidates.proofs.check_candidates.Statement.{statement}
 use Rattle.candidates.proofs.check_candidates.Tie as tie
 
 abbrev Inv-loop : tie.InvT-loop
-Inv-loop bytes limits at count i₀ i = (i ≤ count) × (rest limits bytes count i ≡ firstOf (candidateRules limits 0 count) bytes)
+Inv-loop bytes limits at count i₀ i = (i ≤ count) × (rest limits bytes count i ≡ firstOf (candidateRules limits bytes 0 count))
 
 abbrev μ-loop : tie.MeasureT-loop
 μ-loop bytes limits at count i₀ i = count - i

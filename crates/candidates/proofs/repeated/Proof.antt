@@ -9,7 +9,7 @@ use borrow.Author.Tests.{eq-eqb, ne-eqb}
 use lib.Dec.{eqb}
 use Rattle.record.specs.Below.{anyBelow}
 use Rattle.record.specs.Conditions.{idAt}
-use Rattle.record.specs.declared.limits.Limits.{Limits}
+use Rattle.limits.specs.declared.edition.Limits.{Limits}
 use Rattle.record.specs.declared.layout.Layout.{Layout}
 use Rattle.record.proofs.Below.{any-none, any-more, any-found, any-end}
 use Rattle.candidates.proofs.repeated.Statement.{statement}

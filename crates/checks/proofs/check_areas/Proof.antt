@@ -1,10 +1,11 @@
 -- What the record's own rules say comes first; 11 decides where they say nothing.
 use mathlib.Core.Path.{_≡_, sym, ap, subst⁻¹, _∙_}
-use Rattle.record.specs.Edition.{edition1, Moderate}
+use Rattle.limits.specs.inner.Moderate.{Moderate}
+use Rattle.limits.proofs.Editions.{moderate}
+use Rattle.record.specs.Layout.{limitsAt}
 use Rattle.record.specs.Conditions.{shortDesk}
-use Rattle.record.specs.Accepted.{Laid}
-use Rattle.record.specs.declared.limits.Limits.{Limits}
-use Rattle.record.proofs.Sizes.{moderate}
+use Rattle.record.specs.inner.Accepted.{Laid}
+use Rattle.limits.specs.declared.edition.Limits.{Limits}
 use Rattle.record.proofs.Accepted.{counts}
 use Rattle.record.proofs.Answers.{check-accepts, answer-refused, answer-short, answer-fine}
 use denote.Ref.{now}
@@ -22,23 +23,28 @@ enum-known-checked c = search needs
 enum-known-checked-2 : tie.Need-enum-known-checked-2
 enum-known-checked-2 c = search needs
 
-edition-1-requires : tie.Need-edition-1-requires
-edition-1-requires c κs = search needs
+limits-of-requires : tie.Need-limits-of-requires
+limits-of-requires c κs = search needs
 
 -- the record is accepted, with this layout
 laid : (c : tie.After-checked2) → Laid (now (c .before .before .before .before .args .bytes)) (c .checked2 .given .0 .0)
 laid c = check-accepts _ _ .0 (sym (c .before .before .check .ensures) ∙ c .checked2 .given .1)
 
 short-desk-requires : tie.Need-short-desk-requires
-short-desk-requires c κs = (
-  subst⁻¹ Moderate (c .edition-1 .ensures) moderate,
-  subst⁻¹ (λ (l : Limits). c .before .before .checked2 .given .0 .0 .candidates .count ≤ l .candidates) (c .edition-1 .ensures) (counts (laid (c .before .before)) .candidates),
-)
+short-desk-requires c κs =
+    let at = c .before .before .checked2 .given .0 .0 in (
+      subst⁻¹ Moderate (c .limits-of .ensures) (moderate (at .edition)),
+      subst⁻¹ (λ (l : Limits). at .candidates .count ≤ l .candidates) (c .limits-of .ensures) (counts (laid (c .before .before)) .candidates),
+    )
 
-same : (c : tie.After-short-desk) → shortDesk edition1 (c .before .before .before .checked2 .given .0 .0 .candidates .count) (c .before .before .before .before .before .before .before .args .best) (c .before .before .before .before .before .before .before .args .back) (c .before .before .before .before .before .before .before .args .out) ≡ c .short-desk .result
+same : (c : tie.After-short-desk) →
+    let at = c .before .before .before .checked2 .given .0 .0 in
+    let lent = c .before .before .before .before .before .before .before .args in
+    shortDesk (limitsAt at) (at .candidates .count) (lent .best) (lent .back) (lent .out) ≡ c .short-desk .result
 same c =
-    ap (λ (l : Limits). shortDesk l (c .before .before .before .checked2 .given .0 .0 .candidates .count) (c .before .before .before .before .before .before .before .args .best) (c .before .before .before .before .before .before .before .args .back) (c .before .before .before .before .before .before .before .args .out)) (sym (c .before .edition-1 .ensures))
-    ∙ sym (c .short-desk .ensures)
+    let at = c .before .before .before .checked2 .given .0 .0 in
+    let lent = c .before .before .before .before .before .before .before .args in
+    ap (λ (l : Limits). shortDesk l (at .candidates .count) (lent .best) (lent .back) (lent .out)) (sym (c .before .limits-of .ensures)) ∙ sym (c .short-desk .ensures)
 
 returns : tie.Need-returns
 returns c = answer-refused _ _ _ _ _ (c .before .before .before .check .ensures) (c .before .checked .given .1)
@@ -56,7 +62,7 @@ check-areas-spec =
     check-requires
     enum-known-checked
     enum-known-checked-2
-    edition-1-requires
+    limits-of-requires
     short-desk-requires
     returns
     returns-2

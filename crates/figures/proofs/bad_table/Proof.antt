@@ -7,7 +7,8 @@ use native.Mathlib.Nat.{le-antisymm}
 use native.Mathlib.Numerals.{add-one}
 use native.Mathlib.Omega.{arith}
 use Rattle.record.specs.Below.{anyBelow}
-use Rattle.record.specs.Conditions.{f64At, isDuration, tableEntries}
+use Rattle.limits.specs.Common.{durations}
+use Rattle.record.specs.Conditions.{f64At, isDuration}
 use Rattle.record.proofs.Below.{any-none}
 use Rattle.figures.proofs.bad_table.Statement.{statement}
 use Rattle.figures.proofs.bad_table.Tie as tie
@@ -16,10 +17,10 @@ abbrev Test : List ℕ → ℕ → ℕ → Bool
 Test bytes table i = not (isDuration (f64At bytes (table + 8 * i)))
 
 abbrev Inv-loop : tie.InvT-loop
-Inv-loop bytes table bad₀ i₀ bad i = (i ≤ tableEntries) × (bad ≡ anyBelow (Test bytes table) i)
+Inv-loop bytes table bad₀ i₀ bad i = (i ≤ durations) × (bad ≡ anyBelow (Test bytes table) i)
 
 abbrev μ-loop : tie.MeasureT-loop
-μ-loop bytes table bad₀ i₀ bad i = tableEntries - i
+μ-loop bytes table bad₀ i₀ bad i = durations - i
 
 loop-holds : tie.Need-loop-holds Inv-loop μ-loop
 loop-holds c = (omega arith, sym (any-none _))

@@ -9,7 +9,7 @@ use native.Mathlib.Omega.{arith}
 use lib.Dec.{ltb}
 use Rattle.record.specs.Bytes.{u32At}
 use Rattle.record.specs.Below.{anyBelow}
-use Rattle.record.specs.Conditions.{lastFrame}
+use Rattle.limits.specs.Common.{lastFrame}
 use Rattle.record.proofs.Below.{any-none}
 use Rattle.tracks.proofs.late_frame.Statement.{statement}
 use Rattle.tracks.proofs.late_frame.Tie as tie

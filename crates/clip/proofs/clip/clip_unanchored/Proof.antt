@@ -5,7 +5,7 @@ use mathlib.Core.List.{_++_}
 use native.Mathlib.Omega.{arith}
 use lib.ListN.{length, take, length-set}
 use Rattle.clip.specs.Clip.{startsOf, endsOf, reportAfter}
-use Rattle.clip.specs.Units.{unitsFrom, Alike}
+use Rattle.clip.specs.inner.Units.{placedRange, Alike}
 use Rattle.clip.proofs.Reports.{figure-step, figure-end, reported-from, reported-none}
 use Rattle.clip.proofs.clip.clip_unanchored.Statement.{statement}
 use Rattle.clip.proofs.clip.clip_unanchored.Tie as tie
@@ -14,10 +14,10 @@ abbrev Inv-loop : tie.InvT-loop
 Inv-loop starts₀ ends₀ rows low₀ s₀ starts ends low s =
     (s ≤ length rows)
     × Alike starts ends rows
-    × (take s starts ++ startsOf (reportAfter low (unitsFrom starts ends rows s (length rows - s)))
-    ≡ startsOf (reportAfter low₀ (unitsFrom starts₀ ends₀ rows 0 (length rows - 0))))
-    × (take s ends ++ endsOf (reportAfter low (unitsFrom starts ends rows s (length rows - s)))
-    ≡ endsOf (reportAfter low₀ (unitsFrom starts₀ ends₀ rows 0 (length rows - 0))))
+    × (take s starts ++ startsOf (reportAfter low (placedRange starts ends rows s (length rows - s)))
+    ≡ startsOf (reportAfter low₀ (placedRange starts₀ ends₀ rows 0 (length rows - 0))))
+    × (take s ends ++ endsOf (reportAfter low (placedRange starts ends rows s (length rows - s)))
+    ≡ endsOf (reportAfter low₀ (placedRange starts₀ ends₀ rows 0 (length rows - 0))))
 
 abbrev μ-loop : tie.MeasureT-loop
 μ-loop starts₀ ends₀ rows low₀ s₀ starts ends low s = length rows - s

@@ -5,7 +5,7 @@ use mathlib.Core.List.{List, _∷_}
 use native.Mathlib.Omega.{arith}
 use lib.ListN.{length}
 use Rattle.clip.specs.Clip.{Placed, nextStart}
-use Rattle.clip.specs.Units.{unitsFrom}
+use Rattle.clip.specs.inner.Units.{placedRange}
 use Rattle.clip.proofs.Units.{units-next, units-end, has-anchor, has-none}
 use Rattle.clip.proofs.clip.next_start.Statement.{statement}
 use Rattle.clip.proofs.clip.next_start.Tie as tie
@@ -14,7 +14,8 @@ abbrev Inv-loop : tie.InvT-loop
 Inv-loop starts rows from otherwise at₀ at =
     (at ≤ length rows)
     × ((ends : List ℕ)
-    → nextStart otherwise (unitsFrom starts ends rows at (length rows - at)) ≡ nextStart otherwise (unitsFrom starts ends rows from (length rows - from)))
+    → nextStart otherwise (placedRange starts ends rows at (length rows - at))
+    ≡ nextStart otherwise (placedRange starts ends rows from (length rows - from)))
 
 abbrev μ-loop : tie.MeasureT-loop
 μ-loop starts rows from otherwise at₀ at = length rows - at
@@ -41,7 +42,8 @@ returns c ends =
     let rows = c .before .before .before .before .before .args .rows .now in
     let l = c .before .before .before .before .loop in
     sym (ap (nextStart _) (units-next starts ends rows (l .at) (length rows) (omega arith)
-    ∙ ap (λ (unit : Placed). unit ∷ unitsFrom starts ends rows (l .at + 1) (length rows - (l .at + 1))) (has-anchor starts ends rows (l .at) (c .before .if1 .taken))))
+    ∙ ap (λ (unit : Placed). unit ∷ placedRange starts ends rows (l .at + 1) (length rows - (l .at + 1)))
+    (has-anchor starts ends rows (l .at) (c .before .if1 .taken))))
     ∙ l .inv .1 ends
 
 add-at : tie.Need-add-at Inv-loop μ-loop
@@ -59,7 +61,8 @@ loop-again c =
       omega arith,
       λ ends.
           sym (ap (nextStart _) (units-next starts ends rows (l .at) (length rows) (omega arith)
-          ∙ ap (λ (unit : Placed). unit ∷ unitsFrom starts ends rows (l .at + 1) (length rows - (l .at + 1))) (has-none starts ends rows (l .at) (c .if1 .left))))
+          ∙ ap (λ (unit : Placed). unit ∷ placedRange starts ends rows (l .at + 1) (length rows - (l .at + 1)))
+          (has-none starts ends rows (l .at) (c .if1 .left))))
           ∙ l .inv .1 ends,
     )
 

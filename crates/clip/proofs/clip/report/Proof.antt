@@ -3,7 +3,7 @@ use Prim.Native.Nat.{ℕ, _+_, _-_, max}
 use mathlib.Core.Path.{sym, ap, _∙_}
 use lib.ListN.{length, getD}
 use Rattle.clip.specs.Clip.{Placed, nextStart, report}
-use Rattle.clip.specs.Units.{unitsFrom}
+use Rattle.clip.specs.inner.Units.{placedRange}
 use Rattle.clip.proofs.Units.{has-anchor, has-none}
 use Rattle.clip.proofs.Reports.{clip-is}
 use borrow.Author.Needs.{needs}
@@ -32,8 +32,9 @@ returns : tie.Need-returns
 unfolding report
 returns c =
     let args = c .before .before .before .before .before .before .before .args in
-    let later = unitsFrom (args .starts .now) (args .ends .now) (args .rows .now) (args .s + 1) (length (args .rows .now) - (args .s + 1)) in
-    sym (ap (λ (unit : Placed). report (args .low) unit later) (has-anchor (args .starts .now) (args .ends .now) (args .rows .now) (args .s) (c .if1 .taken)))
+    let rows = args .rows .now in
+    let later = placedRange (args .starts .now) (args .ends .now) rows (args .s + 1) (length rows - (args .s + 1)) in
+    sym (ap (λ (unit : Placed). report (args .low) unit later) (has-anchor (args .starts .now) (args .ends .now) rows (args .s) (c .if1 .taken)))
 
 add-next-start : tie.Need-add-next-start
 add-next-start c = search needs
@@ -54,12 +55,13 @@ returns-2 : tie.Need-returns-2
 unfolding report
 returns-2 c =
     let args = c .before .before .before .before .before .before .before .before .before .before .before .args in
-    let later = unitsFrom (args .starts .now) (args .ends .now) (args .rows .now) (args .s + 1) (length (args .rows .now) - (args .s + 1)) in
+    let rows = args .rows .now in
+    let later = placedRange (args .starts .now) (args .ends .now) rows (args .s + 1) (length rows - (args .s + 1)) in
     clip-is (record { start = getD (args .starts .now) (args .s) 0; end = getD (args .ends .now) (args .s) 0 }) (args .low)
     (nextStart (getD (args .ends .now) (args .s) 0) later) (c .before .before .larger .result) (c .before .nearest .result) (c .nearest2 .result)
     (c .before .before .larger .ensures ∙ ap (λ (next : ℕ). max next (args .low)) (c .before .before .before .next-start .ensures (args .ends .now)))
     (c .before .nearest .ensures) (c .nearest2 .ensures)
-    ∙ sym (ap (λ (unit : Placed). report (args .low) unit later) (has-none (args .starts .now) (args .ends .now) (args .rows .now) (args .s) (c .before .before .before .before .if1 .left)))
+    ∙ sym (ap (λ (unit : Placed). report (args .low) unit later) (has-none (args .starts .now) (args .ends .now) rows (args .s) (c .before .before .before .before .if1 .left)))
 
 pub report-spec : {M : Type 1} → statement M
 report-spec =

@@ -6,9 +6,9 @@ use native.Mathlib.Omega.{arith}
 use lib.Ieee.{binary64, nan, ofBits}
 use lib.ListN.{length, getD, drop, replicate}
 use borrow.Author.Needs.{needs}
-use Rattle.record.proofs.Accepted.{fit}
+use Rattle.record.proofs.Reading.{few-units as candidate-units}
 use Rattle.paths.specs.Problem.{Problem}
-use Rattle.stages.specs.Room.{counts}
+use Rattle.limits.specs.Capacity.{unitCounts}
 use Rattle.stages.specs.Tables.{sinceIn}
 use Rattle.rows.specs.Units.{ReachedFrom}
 use Rattle.rows.proofs.Lists.{reached-at}
@@ -33,11 +33,11 @@ abbrev count : tie.After-first-reached → ℕ
 count c = c .before .units .result
 
 -- the candidate's units are few
-few-units : (c : tie.After-units) → c .units .result < counts
+few-units : (c : tie.After-units) → c .units .result < unitCounts
 few-units c =
     let start = c .before .before .before .before .before .before in
     let given = start .pre .given in
-    omega (arith, c .units .ensures, fit (given .laid) .candidates (start .args .candidate) (record { id = 0; columns = [] }) (given .listed) .fewUnits)
+    omega (arith, c .units .ensures, candidate-units (given .laid) (given .listed))
 
 -- so many cells are used
 used : (c : tie.After-first-reached) → suc (count c) * entry c .args .n ≡ cellsFor (asked (entry c))

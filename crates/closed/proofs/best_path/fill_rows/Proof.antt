@@ -7,8 +7,9 @@ use lib.ListN.{length, getD}
 use borrow.Author.Needs.{needs}
 use Rattle.phrase.specs.declared.costs.Costs.{Costs}
 use Rattle.record.proofs.Accepted.{fit}
-use Rattle.record.proofs.Reading.{within-real}
-use Rattle.stages.specs.Room.{most, counts}
+use Rattle.record.proofs.Reading.{few-units as candidate-units, within-real}
+use Rattle.limits.specs.Capacity.{mostBoundaries, unitCounts}
+use Rattle.stages.specs.Lists.{rowsAt}
 use Rattle.record.specs.Meaning.{phraseOf}
 use Rattle.rows.specs.Reads.{reachedBy, scoreRead, scoreRows, Scorable}
 use Rattle.rows.proofs.Cells.{same-trans}
@@ -31,18 +32,25 @@ abbrev μ-loop : tie.MeasureT-loop
 abbrev asked : tie.Start Inv-loop μ-loop → Asked
 asked c = askedOf (c .args .bytes .now) (c .args .candidate) (c .args .strictness) (c .args .n) (c .args .words .now) (c .args .figures .now)
 
--- the function's entry, from the loop
+-- from the loop: where the row of no units is filled, and the function's entry
+abbrev starting : tie.At-loop Inv-loop μ-loop → tie.After-fill-starts Inv-loop μ-loop
+starting c = c .before .before .before .before .before
+
 abbrev entry : tie.At-loop Inv-loop μ-loop → tie.Start Inv-loop μ-loop
-entry c = c .before .before .before .before .before .before .before .before .before .before .before .before .before
+entry c = starting c .before .before .before .before .before .before .before .before
+
+-- where the column of a turn is read, from where its row is filled
+abbrev reading : tie.After-fill-next Inv-loop μ-loop → tie.After-column Inv-loop μ-loop
+reading c = c .before .before .before
 
 -- the unit of a turn is one of the candidate's, which are few
 turning : (c : tie.In-loop Inv-loop μ-loop) → c .before .loop .s < length (asked (entry (c .before)) .columns)
 turning c = omega (arith, c .loop-test .taken, entry (c .before) .pre .1)
 
-few-units : (c : tie.Start Inv-loop μ-loop) → length (asked c .columns) < counts
+few-units : (c : tie.Start Inv-loop μ-loop) → length (asked c .columns) < unitCounts
 few-units c =
     let given = c .pre .0 .given in
-    omega (arith, fit (given .laid) .candidates (c .args .candidate) (record { id = 0; columns = [] }) (given .listed) .fewUnits)
+    omega (arith, candidate-units (given .laid) (given .listed))
 
 -- the scores of its column can be read
 scorable :
@@ -58,7 +66,7 @@ scorable c =
       laid = given .laid;
       numbered = subst⁻¹ (λ (x : ℕ). x < a .at .scores .count) (c .column .ensures)
           (fit (given .laid) .candidates (a .candidate) (record { id = 0; columns = [] }) (given .listed) .below (c .before .before .loop .s) (turning (c .before)));
-      rows = λ j h. subst (λ (x : ℕ). x < scoreRows (phraseOf (a .bytes .now))) (table-at 4 (a .words .now) j 0 (omega (arith, readable .few))) (readable .rows j h);
+      rows = λ j h. subst (λ (x : ℕ). x < scoreRows (phraseOf (a .bytes .now))) (table-at rowsAt (a .words .now) j 0 (omega (arith, readable .few))) (readable .rows j h);
     }
 
 fill-starts-requires : tie.Need-fill-starts-requires Inv-loop μ-loop
@@ -87,7 +95,7 @@ fill-next-requires c κs =
     let unused = start .pre .0 .unused in
     let turn = turning (c .before .before .before) in
     let fits = next-fits (asked start) (at .loop .inv) turn in
-    let began = at .before .before .before .before .before .fill-starts .kept in
+    let began = starting at .fill-starts .kept in
     let few = few-units start in (
       (
         omega (arith, fits, unused .values, at .loop .inv .valued, began .0),
@@ -114,24 +122,28 @@ fill-next-requires c κs =
     )
 
 add-s : tie.Need-add-s Inv-loop μ-loop
-add-s c = omega (arith, c .before .before .before .before .before .before .before .before .loop-test .taken, entry (c .before .before .before .before .before .before .before .before .before) .fits .k)
+add-s c =
+    let turn = reading (c .before .before .before .before) .before in
+    omega (arith, turn .loop-test .taken, entry (turn .before) .fits .k)
 
 loop-less : tie.Need-loop-less Inv-loop μ-loop
 loop-less c = omega arith
 
 loop-again : tie.Need-loop-again Inv-loop μ-loop
 loop-again c =
-    let at = c .before .before .before .before .before .before .before .before .before in
+    let filled = c .before .before .before .before in
+    let read = reading filled in
+    let at = read .before .before in
     let start = entry at in
     let a = start .args in
     let t = asked start .tables in
     let some = start .pre .0 .some in
-    let turn = turning (c .before .before .before .before .before .before .before .before) in
+    let turn = turning (read .before) in
     let few = few-units start in
-    let unit = c .before .before .before .before .before .before .before .column in
-    let next = c .before .before .before .before .fill-next in
+    let unit = read .column in
+    let next = filled .fill-next in
     rows-more (asked start) (at .loop .inv) turn (next .kept .0) (next .kept .1 .0) (scoreRead (a .bytes .now) (a .words .now) (unit .result))
-    (λ j h. ap (λ (row : ℕ). asked start .phrase .score row (unit .result)) (sym (table-at 4 (a .words .now) j 0 (omega (arith, start .pre .0 .readable .few))))
+    (λ j h. ap (λ (row : ℕ). asked start .phrase .score row (unit .result)) (sym (table-at rowsAt (a .words .now) j 0 (omega (arith, start .pre .0 .readable .few))))
     ∙ ap (asked start .phrase .score (getD (t .row) j 0)) (unit .ensures))
     (reachedBy (a .words .now) (a .strictness) (at .loop .s))
     (subst (λ (x : Costs). FilledNext (rowWith t (scoreRead (a .bytes .now) (a .words .now) (unit .result)) x (a .strictness)) (at .loop .best) (at .loop .back) (next .last .0) (next .last .1 .0) (t .size) (at .loop .s) (reachedBy (a .words .now) (a .strictness) (at .loop .s)))
@@ -141,10 +153,10 @@ loop-again c =
     (some .0) (some .1)
 
 same-length : tie.Need-same-length Inv-loop μ-loop
-same-length c = c .before .loop .inv .valued ∙ c .before .before .before .before .before .before .fill-starts .kept .0
+same-length c = c .before .loop .inv .valued ∙ starting (c .before) .fill-starts .kept .0
 
 same-length-2 : tie.Need-same-length-2 Inv-loop μ-loop
-same-length-2 c = c .before .loop .inv .marked ∙ c .before .before .before .before .before .before .fill-starts .kept .1 .0
+same-length-2 c = c .before .loop .inv .marked ∙ starting (c .before) .fill-starts .kept .1 .0
 
 returns : tie.Need-returns Inv-loop μ-loop
 returns c =
@@ -154,7 +166,7 @@ returns c =
     let all : c .before .loop .s ≡ length (asked start .columns) = omega (arith, c .loop-test .left, start .pre .1, inv .bounded) in
     record {
       rows = λ q agrees. subst (AllRows q (c .before .loop .best) (c .before .loop .back) (start .args .n)) all (inv .filled q agrees);
-      rest = λ at h. same-trans (first-rest (asked start) (c .before .before .before .before .before .before .fill-starts .ensures) (some .0) (some .1) at h) (inv .rest at h);
+      rest = λ at h. same-trans (first-rest (asked start) (starting (c .before) .fill-starts .ensures) (some .0) (some .1) at h) (inv .rest at h);
     }
 
 pub fill-rows-spec : {M : Type 1} → statement M

@@ -2,7 +2,7 @@
 use mathlib.Core.Path.{subst}
 use native.Mathlib.Omega.{arith}
 use Rattle.entries.specs.Entry.{Entry}
-use Rattle.entries.specs.Placing.{Inserted}
+use Rattle.entries.specs.inner.Placing.{Inserted}
 use borrow.Author.Needs.{needs}
 use Rattle.decode.proofs.entry.insert_scored.Statement.{statement}
 use Rattle.decode.proofs.entry.insert_scored.Tie as tie
@@ -19,14 +19,15 @@ slice-aggregate-insert-entry-3 c = search needs
 insert-entry-requires : tie.Need-insert-entry-requires
 insert-entry-requires c κs =
     let pre = c .before .before .before .before .before .before .before .before .before .pre in
-    let s = pre .1 .1 in (
+    let s = pre .2 .1 in (
       pre .0,
       record {
+        room = pre .1;
         few = s .few;
         number = s .number;
-        inStarts = omega (arith, s .few, s .starts);
-        inEnds = omega (arith, s .few, s .ends);
-        inRows = omega (arith, s .few, s .rows);
+        inStarts = omega (arith, pre .1, s .few, s .starts);
+        inEnds = omega (arith, pre .1, s .few, s .ends);
+        inRows = omega (arith, pre .1, s .few, s .rows);
       },
     )
 
@@ -37,7 +38,7 @@ returns : tie.Need-returns
 returns c =
     let a = c .before .before .before .before .before .before .before .before .before .before .before .before .args in
     let insert = c .before .before .insert-entry in
-    λ e s. subst (λ (x : Entry). Inserted 16 (a .number) x (a .out .now) (insert .last .0)) (s .whole) (insert .ensures (e .total))
+    λ e s. subst (λ (x : Entry). Inserted (a .most) (a .number) x (a .out .now) (insert .last .0)) (s .whole) (insert .ensures (e .total))
 
 pub insert-scored-spec : {M : Type 1} → statement M
 insert-scored-spec =

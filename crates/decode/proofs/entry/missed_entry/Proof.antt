@@ -6,8 +6,8 @@ use borrow.Author.Needs.{needs}
 use Rattle.decode.proofs.entry.missed_entry.Statement.{statement}
 use Rattle.decode.proofs.entry.missed_entry.Tie as tie
 
-missed-total-requires : tie.Need-missed-total-requires
-missed-total-requires c κs = search needs
+unanchored-units-requires : tie.Need-unanchored-units-requires
+unanchored-units-requires c κs = search needs
 
 clamp-log-requires : tie.Need-clamp-log-requires
 clamp-log-requires c κs = search needs
@@ -18,7 +18,7 @@ missed-units-requires c κs = search needs
 returns : tie.Need-returns
 returns c =
     let a = c .before .before .before .args in
-    let llr = c .before .clamp-log .ensures .value ∙ ap clampedLog (c .before .before .missed-total .ensures) in
+    let llr = c .before .clamp-log .ensures .value ∙ ap clampedLog (c .before .before .unanchored-units .ensures) in
     record {
       head = λ i. record { id = a .id; llr = llr i; pass = a .pass; units = a .k };
       units = c .missed-units .ensures;
@@ -27,4 +27,4 @@ returns c =
 
 pub missed-entry-spec : {M : Type 1} → statement M
 missed-entry-spec =
-    tie.close (tie.spec missed-total-requires clamp-log-requires missed-units-requires returns)
+    tie.close (tie.spec unanchored-units-requires clamp-log-requires missed-units-requires returns)

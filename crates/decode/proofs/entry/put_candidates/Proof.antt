@@ -6,7 +6,10 @@ use native.Mathlib.Omega.{arith}
 use lib.Ieee.{Float}
 use lib.ListN.{length, drop}
 use Rattle.phrase.specs.Phrase.{Phrase}
-use Rattle.record.specs.Edition.{edition1}
+use Rattle.limits.specs.Sizes.{entryWords}
+use Rattle.limits.proofs.Editions.{moderate}
+use Rattle.laws.proofs.Numbers.{next-row, row-within}
+use Rattle.record.specs.Layout.{limitsOf}
 use Rattle.record.specs.Meaning.{phraseOf}
 use Rattle.record.proofs.Accepted.{counts}
 use Rattle.record.proofs.Reading.{candidate-count}
@@ -18,15 +21,15 @@ use Rattle.decode.proofs.InTurn.{heldAfter, none-held, next-held, every
 use Rattle.decode.proofs.entry.put_candidates.Statement.{statement}
 use Rattle.decode.proofs.entry.put_candidates.Tie as tie
 
-record Turn (phrase : Phrase) (count candidate : ℕ) (best₀ best : List Float) (back₀ back out₀ out : List ℕ) : Type 0 where
+record Turn (most : ℕ) (phrase : Phrase) (count candidate : ℕ) (best₀ best : List Float) (back₀ back out₀ out : List ℕ) : Type 0 where
   within : candidate ≤ count
   values : best ≡ best₀
   marks : back ≡ back₀
-  held : out ≡ heldAfter phrase candidate out₀
+  held : out ≡ heldAfter most phrase candidate out₀
   long : length out ≡ length out₀
 
 abbrev Inv-loop : tie.InvT-loop
-Inv-loop best₀ back₀ bytes at plan words figures added-words added-figures out₀ count candidate₀ best back out candidate = Turn (phraseOf bytes) count candidate best₀ best back₀ back out₀ out
+Inv-loop best₀ back₀ bytes at plan words figures added-words added-figures out₀ count candidate₀ best back out candidate = Turn (limitsOf bytes .units) (phraseOf bytes) count candidate best₀ best back₀ back out₀ out
 
 abbrev μ-loop : tie.MeasureT-loop
 μ-loop best₀ back₀ bytes at plan words figures added-words added-figures out₀ count candidate₀ best back out candidate = count - candidate
@@ -34,7 +37,7 @@ abbrev μ-loop : tie.MeasureT-loop
 loop-holds : tie.Need-loop-holds Inv-loop μ-loop
 loop-holds c =
     let a = c .before .before .before .before .before .before .before .before .args in
-    record { within = omega arith; values = refl; marks = refl; held = none-held (phraseOf (a .bytes .now)) (a .out .now); long = refl }
+    record { within = omega arith; values = refl; marks = refl; held = none-held (limitsOf (a .bytes .now) .units) (phraseOf (a .bytes .now)) (a .out .now); long = refl }
 
 put-candidate-requires : tie.Need-put-candidate-requires Inv-loop μ-loop
 put-candidate-requires c κs =
@@ -44,10 +47,13 @@ put-candidate-requires c κs =
     let ready = pre .0 in
     let below : l .candidate < length (phraseOf (start .args .bytes .now) .candidates) = omega (arith, candidate-count (ready .laid), c .before .before .before .loop-test .taken) in
     let unused = still (l .inv .values) (l .inv .marks) (ready .unused) in
-    (record { laid = ready .laid; planned = ready .planned; lent = ready .lent; unused = unused }, (below, omega (arith, below, l .inv .long, pre .1)))
+    let size = entryWords (limitsOf (start .args .bytes .now) .units) in
+    (record { laid = ready .laid; planned = ready .planned; lent = ready .lent; unused = unused }, (below, omega (arith, row-within size below, next-row (l .candidate) size, l .inv .long, pre .1)))
 
 add-candidate : tie.Need-add-candidate Inv-loop μ-loop
-add-candidate c = omega (arith, c .before .before .before .before .before .before .before .before .before .before .loop-test .taken, counts (c .before .before .before .before .before .before .before .before .before .before .before .before .before .before .before .before .before .before .before .before .pre .0 .laid) .candidates)
+add-candidate c =
+    let start = c .before .before .before .before .before .before .before .before .before .before .before .before .before .before .before .before .before .before .before .before in
+    omega (arith, c .before .before .before .before .before .before .before .before .before .before .loop-test .taken, counts (start .pre .0 .laid) .candidates, moderate (start .args .at .edition) .candidates)
 
 loop-less : tie.Need-loop-less Inv-loop μ-loop
 loop-less c = omega (arith, c .before .before .before .before .before .before .before .before .before .before .loop-test .taken)
@@ -83,8 +89,8 @@ returns c =
     let phrase = phraseOf (start .args .bytes .now) in
     let l = c .before .loop in
     let e : l .candidate ≡ length (phrase .candidates) = omega (arith, candidate-count (start .pre .0 .laid), l .inv .within, c .loop-test .left) in (
-      l .inv .held ∙ ap (λ (n : ℕ). heldAfter phrase n (start .args .out .now)) e
-          ∙ ap (λ (es : List Entry). allWords (edition1 .units) (ranked es) ++ drop (length (phrase .candidates) * edition1 .«entry_words») (start .args .out .now)) (every-entry phrase),
+      l .inv .held ∙ ap (λ (n : ℕ). heldAfter (limitsOf (start .args .bytes .now) .units) phrase n (start .args .out .now)) e
+          ∙ ap (λ (es : List Entry). allWords (limitsOf (start .args .bytes .now) .units) (ranked es) ++ drop (length (phrase .candidates) * entryWords (limitsOf (start .args .bytes .now) .units)) (start .args .out .now)) (every-entry (limitsOf (start .args .bytes .now) .units) phrase),
       (l .inv .values, l .inv .marks),
     )
 

@@ -1,6 +1,7 @@
 -- The entry of each answer.
 use Prim.Native.Nat.{ℕ, _≤_}
 use mathlib.Core.Path.{subst⁻¹}
+use Rattle.limits.specs.Capacity.{mostUnits}
 use Rattle.decode.proofs.Scoring.{few-units, can-place, scored-found, scored-none, scored-unvoiced}
 use borrow.Author.Needs.{needs}
 use Rattle.decode.proofs.entry.score_candidate.Statement.{statement}
@@ -36,7 +37,7 @@ enum-told c = search needs
 missed-entry-requires : tie.Need-missed-entry-requires
 missed-entry-requires c κs =
     let pre = c .before .before .before .before .before .before .before .before .before .pre in
-    subst⁻¹ (λ (n : ℕ). n ≤ 16) (c .before .before .before .before .units .ensures) (few-units (pre .0) (pre .1 .1 .0) (pre .1 .1 .1 .1) (pre .1 .0))
+    subst⁻¹ (λ (n : ℕ). n ≤ mostUnits) (c .before .before .before .before .units .ensures) (few-units (pre .0) (pre .1 .1 .0) (pre .1 .1 .1 .1) (pre .1 .0))
 
 enum-told-2 : tie.Need-enum-told-2
 enum-told-2 c = search needs
@@ -44,7 +45,7 @@ enum-told-2 c = search needs
 missed-entry-requires-2 : tie.Need-missed-entry-requires-2
 missed-entry-requires-2 c κs =
     let pre = c .before .before .before .before .before .before .before .before .before .pre in
-    subst⁻¹ (λ (n : ℕ). n ≤ 16) (c .before .before .before .before .units .ensures) (few-units (pre .0) (pre .1 .1 .0) (pre .1 .1 .1 .1) (pre .1 .0))
+    subst⁻¹ (λ (n : ℕ). n ≤ mostUnits) (c .before .before .before .before .units .ensures) (few-units (pre .0) (pre .1 .1 .0) (pre .1 .1 .1 .1) (pre .1 .0))
 
 returns : tie.Need-returns
 returns c =

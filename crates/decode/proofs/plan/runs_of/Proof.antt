@@ -3,6 +3,7 @@ use mathlib.Core.Path.{ap, subst⁻¹, _∙_}
 use mathlib.Core.List.{List}
 use Prim.Native.Nat.{ℕ, _≤_}
 use lib.ListN.{length}
+use Rattle.limits.specs.Capacity.{mostAnchors}
 use Rattle.paths.specs.Passes.{speaks}
 use Rattle.record.specs.declared.read.Which.the-variants.{Nuclei}
 use Rattle.prepare.proofs.Parts.{few-anchors}
@@ -28,7 +29,7 @@ slice-aggregate-has-nucleus : tie.Need-slice-aggregate-has-nucleus
 slice-aggregate-has-nucleus c = copied-counted (c .before .before .before .anchors .ensures)
 
 has-nucleus-requires : tie.Need-has-nucleus-requires
-has-nucleus-requires c κs = subst⁻¹ (λ (l : List ℕ). length l ≤ 64) (copied-front (c .before .before .before .anchors .ensures)) (few-anchors (c .before .before .before .before .before .before .pre .0) Nuclei)
+has-nucleus-requires c κs = subst⁻¹ (λ (l : List ℕ). length l ≤ mostAnchors) (copied-front (c .before .before .before .anchors .ensures)) (few-anchors (c .before .before .before .before .before .before .pre .0) Nuclei)
 
 spoken-requires : tie.Need-spoken-requires
 spoken-requires c κs = search needs

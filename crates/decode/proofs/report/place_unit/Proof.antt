@@ -2,6 +2,7 @@
 use native.Mathlib.Omega.{arith}
 use borrow.Author.Needs.{needs}
 use Prim.Native.Nat.{_+_}
+use Rattle.stages.specs.Lists.{middlesAt}
 use Rattle.decode.proofs.Placing.{place-anchored, place-bare}
 use Rattle.decode.proofs.report.place_unit.Statement.{statement}
 use Rattle.decode.proofs.report.place_unit.Tie as tie
@@ -16,7 +17,7 @@ shared-slice-read-if1 : tie.Need-shared-slice-read-if1
 shared-slice-read-if1 c = search needs
 
 cast-if1 : tie.Need-cast-if1
-cast-if1 c = omega (arith, c .shared-slice-known .given (128 + c .before .args .j))
+cast-if1 c = omega (arith, c .shared-slice-known .given (middlesAt + c .before .args .j))
 
 add-t11 : tie.Need-add-t11
 add-t11 c = search needs

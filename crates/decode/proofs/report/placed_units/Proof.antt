@@ -7,6 +7,7 @@ use borrow.Author.Needs.{needs}
 use lib.ListN.{length, getD}
 use Rattle.laws.proofs.Listed.{table-none, table-more, length-table}
 use Rattle.laws.specs.Listed.{tableOf}
+use Rattle.limits.specs.Capacity.{mostUnits, mostBoundaries}
 use Rattle.decode.specs.declared.report.PlacedUnit.{PlacedUnit}
 use Rattle.decode.specs.Places.{placeOf, placeAt}
 use Rattle.decode.proofs.report.placed_units.Statement.{statement}
@@ -15,9 +16,9 @@ use Rattle.decode.proofs.report.placed_units.Tie as tie
 -- so many units are placed
 record Done (unit : ℕ → PlacedUnit) (k s : ℕ) (starts ends rows : List ℕ) : Type 0 where
   within : s ≤ k
-  started : starts ≡ tableOf (λ i. unit i .start) s 16 0
-  ended : ends ≡ tableOf (λ i. unit i .end) s 16 0
-  ranked : rows ≡ tableOf (λ i. unit i .row) s 16 0
+  started : starts ≡ tableOf (λ i. unit i .start) s mostUnits 0
+  ended : ends ≡ tableOf (λ i. unit i .end) s mostUnits 0
+  ranked : rows ≡ tableOf (λ i. unit i .row) s mostUnits 0
 
 abbrev Inv-loop : tie.InvT-loop
 Inv-loop k words firsts lasts starts₀ ends₀ rows₀ s₀ starts ends rows s = Done (λ i. placeOf words (getD firsts i 0) (getD lasts i 0)) k s starts ends rows
@@ -25,17 +26,21 @@ Inv-loop k words firsts lasts starts₀ ends₀ rows₀ s₀ starts ends rows s 
 abbrev μ-loop : tie.MeasureT-loop
 μ-loop k words firsts lasts starts₀ ends₀ rows₀ s₀ starts ends rows s = k - s
 
+-- the function's entry, from the loop
+abbrev entry : tie.At-loop Inv-loop μ-loop → tie.Start Inv-loop μ-loop
+entry c = c .before .before .before .before
+
 -- what is looked up in a turn is there
 record There (c : tie.In-loop Inv-loop μ-loop) : Type 0 where
-  placed : c .before .loop .s < 16
-  firsts : length (c .before .before .before .before .before .args .units .first) ≡ 16
-  lasts : length (c .before .before .before .before .before .args .units .last) ≡ 16
-  begins : getD (c .before .before .before .before .before .args .units .first) (c .before .loop .s) 0 < 64
-  ends : getD (c .before .before .before .before .before .args .units .last) (c .before .loop .s) 0 < 64
+  placed : c .before .loop .s < mostUnits
+  firsts : length (entry (c .before) .args .units .first) ≡ mostUnits
+  lasts : length (entry (c .before) .args .units .last) ≡ mostUnits
+  begins : getD (entry (c .before) .args .units .first) (c .before .loop .s) 0 < mostBoundaries
+  ends : getD (entry (c .before) .args .units .last) (c .before .loop .s) 0 < mostBoundaries
 
 there : (c : tie.In-loop Inv-loop μ-loop) → There c
 there c =
-    let pre = c .before .before .before .before .before .pre in
+    let pre = entry (c .before) .pre in
     let turning = c .loop-test .taken in
     record {
       placed = omega (arith, pre .few);
@@ -46,15 +51,15 @@ there c =
     }
 
 -- the arrays keep their sizes
-full : (unit : ℕ → ℕ) (s k : ℕ) (l : List ℕ) → l ≡ tableOf unit s 16 0 → s ≤ k → k ≤ 16 → length l ≡ 16
-full unit s k l e within few = ap length e ∙ length-table unit s 16 0 (omega arith)
+full : (unit : ℕ → ℕ) (s k : ℕ) (l : List ℕ) → l ≡ tableOf unit s mostUnits 0 → s ≤ k → k ≤ mostUnits → length l ≡ mostUnits
+full unit s k l e within few = ap length e ∙ length-table unit s mostUnits 0 (omega arith)
 
 loop-holds : tie.Need-loop-holds Inv-loop μ-loop
 loop-holds c = record {
   within = omega arith;
-  started = table-none _ 16 0;
-  ended = table-none _ 16 0;
-  ranked = table-none _ 16 0;
+  started = table-none _ mostUnits 0;
+  ended = table-none _ mostUnits 0;
+  ranked = table-none _ mostUnits 0;
 }
 
 mul-i : tie.Need-mul-i Inv-loop μ-loop
@@ -76,25 +81,25 @@ cast-j : tie.Need-cast-j Inv-loop μ-loop
 cast-j c = let known = there c in omega arith
 
 place-unit-requires : tie.Need-place-unit-requires Inv-loop μ-loop
-place-unit-requires c κs = let known = there c in (c .before .before .before .before .before .pre .worded, known .begins, known .ends)
+place-unit-requires c κs = let known = there c in (entry (c .before) .pre .worded, known .begins, known .ends)
 
 mul-starts : tie.Need-mul-starts Inv-loop μ-loop
 mul-starts c = let known = there (c .before) in omega arith
 
 array-write-starts : tie.Need-array-write-starts Inv-loop μ-loop
-array-write-starts c = let known = there (c .before) in let l = c .before .before .loop in omega (arith, full _ _ _ (l .starts) (l .inv .started) (l .inv .within) (c .before .before .before .before .before .before .pre .few))
+array-write-starts c = let known = there (c .before) in let l = c .before .before .loop in omega (arith, full _ _ _ (l .starts) (l .inv .started) (l .inv .within) (entry (c .before .before) .pre .few))
 
 mul-ends : tie.Need-mul-ends Inv-loop μ-loop
 mul-ends c = let known = there (c .before) in omega arith
 
 array-write-ends : tie.Need-array-write-ends Inv-loop μ-loop
-array-write-ends c = let known = there (c .before) in let l = c .before .before .loop in omega (arith, full _ _ _ (l .ends) (l .inv .ended) (l .inv .within) (c .before .before .before .before .before .before .pre .few))
+array-write-ends c = let known = there (c .before) in let l = c .before .before .loop in omega (arith, full _ _ _ (l .ends) (l .inv .ended) (l .inv .within) (entry (c .before .before) .pre .few))
 
 mul-rows : tie.Need-mul-rows Inv-loop μ-loop
 mul-rows c = let known = there (c .before) in omega arith
 
 array-write-rows : tie.Need-array-write-rows Inv-loop μ-loop
-array-write-rows c = let known = there (c .before) in let l = c .before .before .loop in omega (arith, full _ _ _ (l .rows) (l .inv .ranked) (l .inv .within) (c .before .before .before .before .before .before .pre .few))
+array-write-rows c = let known = there (c .before) in let l = c .before .before .loop in omega (arith, full _ _ _ (l .rows) (l .inv .ranked) (l .inv .within) (entry (c .before .before) .pre .few))
 
 add-s : tie.Need-add-s Inv-loop μ-loop
 add-s c = let known = there (c .before) in omega arith
@@ -104,28 +109,28 @@ loop-less c = omega (arith, c .before .loop-test .taken)
 
 loop-again : tie.Need-loop-again Inv-loop μ-loop
 loop-again c =
-    let a = c .before .before .before .before .before .before .args in
+    let a = entry (c .before .before) .args in
     let l = c .before .before .loop in
     let unit : ℕ → PlacedUnit = placeAt (a .words .now) (a .units) in
     let placed = c .place-unit .ensures in
     let known = there (c .before) in
     record {
       within = omega (arith, c .before .loop-test .taken);
-      started = table-more (λ i. unit i .start) (l .s) 16 0 _ (l .starts) (l .inv .started) (known .placed) (ap (λ (u : PlacedUnit). u .start) placed);
-      ended = table-more (λ i. unit i .end) (l .s) 16 0 _ (l .ends) (l .inv .ended) (known .placed) (ap (λ (u : PlacedUnit). u .end) placed);
-      ranked = table-more (λ i. unit i .row) (l .s) 16 0 _ (l .rows) (l .inv .ranked) (known .placed) (ap (λ (u : PlacedUnit). u .row) placed);
+      started = table-more (λ i. unit i .start) (l .s) mostUnits 0 _ (l .starts) (l .inv .started) (known .placed) (ap (λ (u : PlacedUnit). u .start) placed);
+      ended = table-more (λ i. unit i .end) (l .s) mostUnits 0 _ (l .ends) (l .inv .ended) (known .placed) (ap (λ (u : PlacedUnit). u .end) placed);
+      ranked = table-more (λ i. unit i .row) (l .s) mostUnits 0 _ (l .rows) (l .inv .ranked) (known .placed) (ap (λ (u : PlacedUnit). u .row) placed);
     }
 
 returns : tie.Need-returns Inv-loop μ-loop
 returns c =
-    let a = c .before .before .before .before .before .args in
+    let a = entry (c .before) .args in
     let l = c .before .loop in
     let unit : ℕ → PlacedUnit = placeAt (a .words .now) (a .units) in
     let e : l .s ≡ a .k = omega (arith, l .inv .within, c .loop-test .left) in
     record {
-      starts = l .inv .started ∙ ap (λ (n : ℕ). tableOf (λ i. unit i .start) n 16 0) e;
-      ends = l .inv .ended ∙ ap (λ (n : ℕ). tableOf (λ i. unit i .end) n 16 0) e;
-      rows = l .inv .ranked ∙ ap (λ (n : ℕ). tableOf (λ i. unit i .row) n 16 0) e;
+      starts = l .inv .started ∙ ap (λ (n : ℕ). tableOf (λ i. unit i .start) n mostUnits 0) e;
+      ends = l .inv .ended ∙ ap (λ (n : ℕ). tableOf (λ i. unit i .end) n mostUnits 0) e;
+      rows = l .inv .ranked ∙ ap (λ (n : ℕ). tableOf (λ i. unit i .row) n mostUnits 0) e;
     }
 
 pub placed-units-spec : {M : Type 1} → statement M

@@ -1,7 +1,7 @@
 -- `put_entry`: the head, the units and the zeros after them are the words of the entry.
 use borrow.Author.Needs.{needs}
 use denote.Ref.{now}
-use Rattle.entries.specs.EntryFrom.{mostUnits, entryFrom}
+use Rattle.entries.specs.inner.EntryFrom.{entryFrom}
 use Rattle.entries.proofs.EntryWords.{length-unitsFrom, stored}
 use Rattle.entries.proofs.words.put_entry.Statement.{statement}
 use Rattle.entries.proofs.words.put_entry.Tie as tie
@@ -24,8 +24,14 @@ add-put-units c = search needs
 put-units-requires : tie.Need-put-units-requires
 put-units-requires c κs = search needs
 
+mul-put-zeros : tie.Need-mul-put-zeros
+mul-put-zeros c = search needs
+
 add-put-zeros : tie.Need-add-put-zeros
 add-put-zeros c = search needs
+
+add-put-zeros-2 : tie.Need-add-put-zeros-2
+add-put-zeros-2 c = search needs
 
 put-zeros-requires : tie.Need-put-zeros-requires
 put-zeros-requires c κs = search needs
@@ -39,7 +45,7 @@ returns c total =
     let a = start .args in
     let e = entryFrom (a .head) (now (a .starts)) (now (a .ends)) (now (a .rows)) total in
     let counted = length-unitsFrom (now (a .starts)) (now (a .ends)) (now (a .rows)) (a .head .units) 0 in
-    stored mostUnits e (now (a .out)) (a .at) (a .head .units) counted (start .pre .1 .few) (start .pre .0)
+    stored (a .most) e (now (a .out)) (a .at) (a .head .units) counted (start .pre .1 .few) (start .pre .0)
     (c .before .before .before .before .before .before .before .before .before .before .put-head .ensures) (c .before .before .before .before .before .before .put-units .ensures) (c .before .before .put-zeros .ensures)
 
 pub put-entry-spec : {M : Type 1} → statement M
@@ -52,7 +58,9 @@ put-entry-spec =
     put-head-requires
     add-put-units
     put-units-requires
+    mul-put-zeros
     add-put-zeros
+    add-put-zeros-2
     put-zeros-requires
     same-length
     returns)

@@ -6,7 +6,7 @@ use native.Mathlib.Omega.{arith}
 use lib.ListN.{length, length-set}
 use lib.Seq.{sets}
 use Rattle.entries.specs.Words.{unitWords}
-use Rattle.entries.specs.EntryFrom.{unitsFrom}
+use Rattle.entries.specs.inner.EntryFrom.{unitsFrom}
 use Rattle.entries.proofs.UnitStores.{units-turn, units-end}
 use Rattle.entries.proofs.words.put_units.Statement.{statement}
 use Rattle.entries.proofs.words.put_units.Tie as tie

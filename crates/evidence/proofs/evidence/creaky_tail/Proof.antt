@@ -2,7 +2,7 @@
 use mathlib.Core.Path.{_≡_, sym, ap, _∙_}
 use mathlib.Core.Bool.{Bool}
 use borrow.Author.Needs.{needs}
-use Rattle.laws.proofs.Choices.{taken, passed}
+use Rattle.frames.proofs.Outcomes.{refuses, leaves, answers}
 use Rattle.frames.specs.Outcome.{Outcome, accepted}
 use Rattle.evidence.specs.CreakyTail.{creakyTailOf, tailAfter, lastPitched}
 use Rattle.frames.specs.declared.list.Nearest.{Nearest}
@@ -12,7 +12,7 @@ use Rattle.evidence.proofs.evidence.creaky_tail.Tie as tie
 
 returns : tie.Need-returns
 unfolding creakyTailOf
-returns c = taken _ (c .if1 .taken)
+returns c = refuses _ _ (c .if1 .taken)
 
 unfit-requires : tie.Need-unfit-requires
 unfit-requires c κs = search needs
@@ -26,8 +26,8 @@ beyond-requires c κs = search needs
 returns-2 : tie.Need-returns-2
 unfolding creakyTailOf
 returns-2 c =
-    passed _ (c .before .before .before .before .if1 .left)
-    (taken _ (rw (c .before .before .before .unfit .ensures, c .before .before .unfit2 .ensures, c .before .beyond .ensures) at (c .if2 .taken)))
+    leaves _ _ _ (c .before .before .before .before .if1 .left)
+    (refuses _ _ (rw (c .before .before .before .unfit .ensures, c .before .before .unfit2 .ensures, c .before .beyond .ensures) at (c .if2 .taken)))
 
 -- what is asked, and the answer where no test refuses
 abbrev entry : tie.Else2 → tie.Start
@@ -47,7 +47,7 @@ accepts : (c : tie.Else2) (last : Nearest)
 unfolding creakyTailOf
 accepts c last e =
     let fit = rw (c .before .before .before .unfit .ensures, c .before .before .unfit2 .ensures, c .before .beyond .ensures) at (c .if2 .left) in
-    passed _ (c .before .before .before .before .if1 .left) (passed _ fit (ap (λ (f : Nearest). accepted (answer c f)) e))
+    leaves _ _ _ (c .before .before .before .before .if1 .left) (leaves _ _ _ fit (answers (ap (answer c) e)))
 
 last-pitched-requires : tie.Need-last-pitched-requires
 last-pitched-requires c κs = search needs

@@ -2,18 +2,17 @@
 use mathlib.Core.Path.{ap₂}
 use mathlib.Core.Bool.{Bool}
 use borrow.Author.Needs.{needs}
-use Rattle.laws.proofs.Choices.{taken, passed}
 use Rattle.evidence.specs.Joins.{Edges, joinsOf}
-use Rattle.frames.specs.Outcome.{Outcome, accepted}
+use Rattle.frames.proofs.Outcomes.{refuses, leaves, answers}
 use Rattle.evidence.proofs.joins.joins.Statement.{statement}
 use Rattle.evidence.proofs.joins.joins.Tie as tie
 
-edges : Bool → Bool → Outcome Edges
-edges s e = accepted (record { start = s; end = e })
+edges : Bool → Bool → Edges
+edges s e = record { start = s; end = e }
 
 returns : tie.Need-returns
 unfolding joinsOf
-returns c = taken _ (c .if1 .taken)
+returns c = refuses _ _ (c .if1 .taken)
 
 unfit-requires : tie.Need-unfit-requires
 unfit-requires c κs = search needs
@@ -24,7 +23,7 @@ unfit-requires-2 c κs = search needs
 returns-2 : tie.Need-returns-2
 unfolding joinsOf
 returns-2 c =
-    passed _ (c .before .before .before .if1 .left) (taken _ (rw (c .before .before .unfit .ensures, c .before .unfit2 .ensures) at (c .if2 .taken)))
+    leaves _ _ _ (c .before .before .before .if1 .left) (refuses _ _ (rw (c .before .before .unfit .ensures, c .before .unfit2 .ensures) at (c .if2 .taken)))
 
 joined-requires : tie.Need-joined-requires
 joined-requires c κs = search needs
@@ -36,7 +35,7 @@ returns-3 : tie.Need-returns-3
 unfolding joinsOf edges
 returns-3 c =
     let fit = rw (c .before .before .before .before .unfit .ensures, c .before .before .before .unfit2 .ensures) at (c .before .before .if2 .left) in
-    passed _ (c .before .before .before .before .before .if1 .left) (passed _ fit (ap₂ edges (c .before .joined .ensures) (c .joined2 .ensures)))
+    leaves _ _ _ (c .before .before .before .before .before .if1 .left) (leaves _ _ _ fit (answers (ap₂ edges (c .before .joined .ensures) (c .joined2 .ensures))))
 
 pub joins-spec : {M : Type 1} → statement M
 joins-spec =

@@ -4,7 +4,7 @@ use mathlib.Core.Bool.{not}
 use lib.Dec.{T}
 use lib.Ieee.{Float, binary32, isNan}
 use Rattle.ieee.specs.Convert.{narrowed, clampedLog}
-use Rattle.ieee.specs.Value.{Within}
+use Rattle.ieee.specs.inner.Value.{Within}
 use Rattle.ieee.proofs.NarrowClamp.{clamped-number, clampedLog-within}
 use Rattle.ieee.proofs.convert.clamp_log.Statement.{statement}
 use Rattle.ieee.proofs.convert.clamp_log.Tie as tie

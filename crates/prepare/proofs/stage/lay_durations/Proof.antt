@@ -6,10 +6,10 @@ use native.Mathlib.Omega.{arith}
 use lib.Ieee.{Float}
 use Rattle.laws.proofs.Listed.{written-full}
 use Rattle.laws.proofs.Filling.{Filling, filling-none, filling-more, filling-all}
-use Rattle.paths.specs.Units.{shortestUnit}
+use Rattle.limits.specs.Common.{shortestUnit, durations}
 use Rattle.stages.specs.Filler.{noCost}
 use Rattle.record.specs.Meaning.{phraseOf}
-use Rattle.record.specs.Reading.{stageOf}
+use Rattle.record.specs.inner.Reading.{stageOf}
 use Rattle.record.specs.declared.read.Which.{Which}
 use Rattle.prepare.proofs.stage.lay_durations.Statement.{statement}
 use Rattle.prepare.proofs.stage.lay_durations.Tie as tie
@@ -19,10 +19,10 @@ abbrev entry : List ℕ → Which → ℕ → Float
 entry bytes which i = stageOf which (phraseOf bytes) .duration (i + shortestUnit)
 
 abbrev Inv-loop : tie.InvT-loop
-Inv-loop bytes at which out₀ i₀ out i = Filling (entry bytes which) 75 out₀ out i
+Inv-loop bytes at which out₀ i₀ out i = Filling (entry bytes which) durations out₀ out i
 
 abbrev μ-loop : tie.MeasureT-loop
-μ-loop bytes at which out₀ i₀ out i = 75 - i
+μ-loop bytes at which out₀ i₀ out i = durations - i
 
 loop-holds : tie.Need-loop-holds Inv-loop μ-loop
 loop-holds c = filling-none (omega arith)
@@ -57,7 +57,7 @@ returns : tie.Need-returns Inv-loop μ-loop
 returns c =
     let start = c .before .before .before .before in
     filling-all (c .before .loop .inv) (omega arith)
-    ∙ written-full (entry (start .args .bytes .now) (start .args .which)) 75 noCost (start .args .out .now) (start .pre .1 .1)
+    ∙ written-full (entry (start .args .bytes .now) (start .args .which)) durations noCost (start .args .out .now) (start .pre .1 .1)
 
 pub lay-durations-spec : {M : Type 1} → statement M
 lay-durations-spec =

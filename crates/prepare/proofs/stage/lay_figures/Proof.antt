@@ -6,12 +6,13 @@ use lib.ListN.{length, take}
 use lib.Seq.{length-take-le, take-all}
 use Rattle.laws.proofs.Listed.{length-table}
 use Rattle.paths.specs.Anchors.{keptIn}
-use Rattle.paths.specs.Units.{shortestUnit}
+use Rattle.limits.specs.Capacity.{mostBoundaries}
+use Rattle.limits.specs.Common.{shortestUnit, durations}
 use Rattle.record.specs.Meaning.{phraseOf}
-use Rattle.record.specs.Reading.{stageOf}
+use Rattle.record.specs.inner.Reading.{stageOf}
 use Rattle.record.specs.declared.read.Which.the-variants.{Nuclei}
 use Rattle.stages.specs.Filler.{noCost}
-use Rattle.stages.specs.Tables.{tableAt}
+use Rattle.stages.specs.Lists.{startsAt, gapsAt, stopsAt, fillerLong, tableAt}
 use Rattle.stages.specs.Parts.{Fills}
 use Rattle.stages.proofs.Parts.{both-long, in-front, in-rest}
 use Rattle.prepare.proofs.Lists.{copied-front, copied-counted, copied-within}
@@ -66,7 +67,7 @@ lay-filler-requires c κs =
     let figures = start .args .figures .now in (
       read-fit h (start .args .which) (costs .before .before .mask .ensures) (start .pre .1 .1 .0),
       read-listed h Nuclei (inserted costs),
-      length-take-le 192 figures (omega (arith, start .pre .1 .1 .1)),
+      length-take-le fillerLong figures (omega (arith, start .pre .1 .1 .1)),
     )
 
 sub-lay-durations : tie.Need-sub-lay-durations
@@ -94,22 +95,22 @@ returns c =
     let timing = c .before .before .lay-durations in
     let p = filler .last .1 .1 .1 .1 .0 in
     let q = timing .last .1 .1 .1 .0 in
-    let long : length figures ≡ 192 + 75 = start .pre .1 .1 .1 in
-    let p-long : length p ≡ 192 = filler .kept .1 .1 .1 .1 .0 ∙ length-take-le 192 figures (omega arith) in
-    let timed = length-table (λ (i : ℕ). stage .duration (i + shortestUnit)) 75 75 noCost (omega arith) in
-    let q-long : length q ≡ 75 = ap length (timing .ensures) ∙ timed in
+    let long : length figures ≡ fillerLong + durations = start .pre .1 .1 .1 in
+    let p-long : length p ≡ fillerLong = filler .kept .1 .1 .1 .1 .0 ∙ length-take-le fillerLong figures (omega arith) in
+    let timed = length-table (λ (i : ℕ). stage .duration (i + shortestUnit)) durations durations noCost (omega arith) in
+    let q-long : length q ≡ durations = ap length (timing .ensures) ∙ timed in
     let masked = costs .before .before .mask .ensures in
     let there =
     coe 0 1
     (i. Fills (costs .costs .ensures i) (masked i) (keptIn (masked i) 0 (inserted costs i)) (start .pre .1 .1 .0 i)
-    (tableAt 0 p) (tableAt 1 p) (tableAt 2 p)) (filler .ensures) in record {
+    (tableAt startsAt p) (tableAt gapsAt p) (tableAt stopsAt p)) (filler .ensures) in record {
       fills = record {
-        started = in-front 192 75 figures p q long p-long q-long 0 64 (omega arith) ∙ there .started;
-        gapped = in-front 192 75 figures p q long p-long q-long 64 64 (omega arith) ∙ there .gapped;
-        stopped = in-front 192 75 figures p q long p-long q-long 128 64 (omega arith) ∙ there .stopped;
+        started = in-front fillerLong durations figures p q long p-long q-long startsAt mostBoundaries (omega arith) ∙ there .started;
+        gapped = in-front fillerLong durations figures p q long p-long q-long gapsAt mostBoundaries (omega arith) ∙ there .gapped;
+        stopped = in-front fillerLong durations figures p q long p-long q-long stopsAt mostBoundaries (omega arith) ∙ there .stopped;
       };
-      timed = in-rest 192 75 figures p q long p-long q-long 0 75 ∙ take-all 75 q (omega arith) ∙ timing .ensures;
-      whole = both-long 192 75 figures p q long p-long q-long;
+      timed = in-rest fillerLong durations figures p q long p-long q-long 0 durations ∙ take-all durations q (omega arith) ∙ timing .ensures;
+      whole = both-long fillerLong durations figures p q long p-long q-long;
     }
 
 pub lay-figures-spec : {M : Type 1} → statement M

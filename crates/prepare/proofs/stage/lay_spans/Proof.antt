@@ -8,7 +8,8 @@ use borrow.Rule.Slice.PartMut.{putMid}
 use Rattle.laws.proofs.Listed.{table-same, written-at, length-written}
 use Rattle.laws.specs.Listed.{tableOf, written}
 use Rattle.spans.specs.Spans.{spanOf}
-use Rattle.stages.specs.Room.{most}
+use Rattle.limits.specs.Capacity.{mostAnchors, mostBoundaries}
+use Rattle.stages.specs.Lists.{spanStartsIn}
 use Rattle.stages.specs.Ranges.{entryOf}
 use Rattle.stages.proofs.Parts.{Laying, laying-none, laying-long, laying-next}
 use Rattle.prepare.specs.Sides.{figureBefore, RowsWithin}
@@ -36,7 +37,7 @@ abbrev by-place : tie.Start → (ℕ → ℕ) → ℕ → ℕ
 by-place c f j = figureBefore f (c .args .rows .now) (c .args .first-row) (entryOf (c .args .places .now) j)
 
 abbrev table : tie.Start → (ℕ → ℕ) → List ℕ
-table c f = tableOf (by-place c f) (length (c .args .bounds .now)) most 0
+table c f = tableOf (by-place c f) (length (c .args .bounds .now)) mostBoundaries 0
 
 abbrev tables : tie.Start → ℕ → List ℕ
 tables c j = getD (table c (start-of c) ∷ table c (end-of c) ∷ []) j []
@@ -46,23 +47,23 @@ fresh c = laying-none (c .pre .1 .1) refl
 
 -- A list that holds an edge of each listed anchor's span.
 module _ (c : tie.Start) (edge-of : ℕ → ℕ) {list : List ℕ}
-    (filled : list ≡ written edge-of (length (c .args .anchors .now)) (replicate most 0)) where
+    (filled : list ≡ written edge-of (length (c .args .anchors .now)) (replicate mostAnchors 0)) where
   listed : RowsWithin (c .args .rows .now) (c .args .first-row) (c .args .places .now) (length (c .args .bounds .now)) (length list)
   listed =
-      let full = length-replicate {A = ℕ} most 0 in
-      let room : length (c .args .anchors .now) ≤ length (replicate {A = ℕ} most 0) = omega (arith, c .pre .0 .0 .short, full) in
-      let long = ap length filled ∙ length-written edge-of (length (c .args .anchors .now)) (replicate most 0) room in
+      let full = length-replicate {A = ℕ} mostAnchors 0 in
+      let room : length (c .args .anchors .now) ≤ length (replicate {A = ℕ} mostAnchors 0) = omega (arith, c .pre .0 .0 .short, full) in
+      let long = ap length filled ∙ length-written edge-of (length (c .args .anchors .now)) (replicate mostAnchors 0) room in
       let rows = c .pre .1 .0 in
       record { placed = rows .placed; from = rows .from; within = λ j h some. omega (arith, rows .within j h some, room, long) }
 
   picked : table c (entryOf list) ≡ table c edge-of
   picked =
-      table-same (by-place c (entryOf list)) (by-place c edge-of) (length (c .args .bounds .now)) most 0
+      table-same (by-place c (entryOf list)) (by-place c edge-of) (length (c .args .bounds .now)) mostBoundaries 0
       (λ j h.
       let row = entryOf (c .args .rows .now) (entryOf (c .args .places .now) j - 1) in
       figure-same (entryOf list) edge-of (c .args .rows .now) (c .args .first-row) (entryOf (c .args .places .now) j)
       (λ some. ap (λ (l : List ℕ). entryOf l (row - c .args .first-row)) filled
-      ∙ written-at edge-of (length (c .args .anchors .now)) (replicate most 0) 0 (row - c .args .first-row)
+      ∙ written-at edge-of (length (c .args .anchors .now)) (replicate mostAnchors 0) 0 (row - c .args .first-row)
       (c .pre .1 .0 .within j h some)))
 
 slice-aggregate-spans-ascending : tie.Need-slice-aggregate-spans-ascending
@@ -96,7 +97,7 @@ pick-listed-requires c κs =
     (listed start (start-of start) (spans .spans-ascending .ensures .0), omega (arith, start .pre .0 .2 .short, laying-long (fresh start) (omega arith)))
 
 started : (c : tie.After-pick-listed)
-    → Laying 0 2 (tables (entry (found c))) 1 (putMid 0 64 (entry (found c) .args .words .now) (c .pick-listed .last .1 .1 .1 .1 .1 .0))
+    → Laying 0 2 (tables (entry (found c))) 1 (putMid spanStartsIn mostBoundaries (entry (found c) .args .words .now) (c .pick-listed .last .1 .1 .1 .1 .1 .0))
 started c =
     let start = entry (found c) in
     let spans = found c .spans-ascending in

@@ -4,7 +4,7 @@ use mathlib.Core.List.{List}
 use mathlib.Core.Path.{_≡_}
 use lib.ListN.{take}
 use Rattle.record.specs.Meaning.{phraseOf}
-use Rattle.record.specs.Reading.{stageOf}
+use Rattle.record.specs.inner.Reading.{stageOf}
 use Rattle.prepare.proofs.Lists.{copied-front, copied-counted, copied-within}
 use Rattle.prepare.proofs.Parts.{few-boundaries, nuclei-first}
 use Rattle.prepare.proofs.Prepared.{prepared}
@@ -14,6 +14,10 @@ use Rattle.prepare.proofs.stage.lay_stage.Tie as tie
 
 abbrev entry : tie.After-boundaries → tie.Start
 entry c = c .before .before .before .before .before
+
+-- where the boundaries are read, from where the words are laid
+abbrev reading : tie.After-lay-stage-words → tie.After-boundaries
+reading c = c .before .before .before .before
 
 abbrev bounds-of : tie.After-boundaries → List ℕ
 bounds-of c = take (c .boundaries .result) (c .boundaries .last .1 .1 .1 .0)
@@ -41,14 +45,14 @@ lay-stage-words-requires c κs =
     (pre .0, (bounded read, pre .1 .1 .0))
 
 array-share-prefix-bounds-2 : tie.Need-array-share-prefix-bounds-2
-array-share-prefix-bounds-2 c = copied-within (c .before .before .before .before .before .before .boundaries .ensures)
+array-share-prefix-bounds-2 c = copied-within (reading (c .before .before) .boundaries .ensures)
 
 slice-aggregate-lay-figures : tie.Need-slice-aggregate-lay-figures
-slice-aggregate-lay-figures c = copied-counted (c .before .before .before .before .before .before .before .boundaries .ensures)
+slice-aggregate-lay-figures c = copied-counted (reading (c .before .before .before) .boundaries .ensures)
 
 lay-figures-requires : tie.Need-lay-figures-requires
 lay-figures-requires c κs =
-    let read = c .before .before .before .before .before .before .before .before in
+    let read = reading (c .before .before .before .before) in
     let pre = entry read .pre in
     (pre .0, (pre .1 .0, (bounded read, pre .1 .1 .1)))
 
@@ -60,10 +64,11 @@ same-length-2 c = search needs
 
 returns : tie.Need-returns
 returns c =
-    let start = entry (c .before .before .before .before .before .before .before .before .before .before .before) in
+    let words = c .before .before .before .before .before .before .before in
+    let start = entry (reading words) in
     let phrase = phraseOf (start .args .bytes .now) in
-    prepared phrase (stageOf (start .args .which) phrase) (nuclei-first (start .pre .0))
-    (c .before .before .before .before .before .before .before .lay-stage-words .ensures) (c .before .before .lay-figures .ensures)
+    prepared phrase (stageOf (start .args .which) phrase) (nuclei-first (start .pre .0)) (words .lay-stage-words .ensures)
+    (c .before .before .lay-figures .ensures)
 
 pub lay-stage-spec : {M : Type 1} → statement M
 lay-stage-spec =

@@ -7,9 +7,10 @@ use lib.ListN.{length, getD}
 use Rattle.laws.proofs.Listed.{table-same}
 use Rattle.frames.specs.declared.span.Span.{Span}
 use Rattle.paths.specs.Anchors.{Anchor, keptIn}
-use Rattle.paths.specs.Ranges.{before, lastOf}
+use Rattle.paths.specs.inner.Ranges.{before, lastOf}
 use Rattle.spans.specs.Spans.{spanOf}
-use Rattle.stages.specs.Room.{most}
+use Rattle.limits.specs.Capacity.{mostBoundaries}
+use Rattle.stages.specs.Lists.{spanStartsIn, spanEndsIn}
 use Rattle.stages.specs.Ranges.{entryOf}
 use Rattle.stages.proofs.Held.{kept-listed}
 use Rattle.stages.proofs.Stage.{Placing, kept-orderly}
@@ -119,11 +120,11 @@ returns c =
     let last : ℕ → Span = λ j. listedSpan anchors bounds lo hi (lastOf (before (kept-of start) (getD bounds j 0))) in
     let span : ℕ → Span = λ i. spanOf anchors bounds lo hi (entryOf anchors i) in record {
       searched = still-searched words spans (lays .whole) (laid .whole) (searched (placing placed) rowed lays);
-      starts = spans-table words spans (lays .whole) (laid .whole) 0 (omega arith) ∙ laid .starts
-          ∙ table-same (λ j. figureBefore (λ i. span i .start) rows first (place j)) (λ j. last j .start) (length bounds) most 0
+      starts = spans-table words spans (lays .whole) (laid .whole) spanStartsIn (omega arith) ∙ laid .starts
+          ∙ table-same (λ j. figureBefore (λ i. span i .start) rows first (place j)) (λ j. last j .start) (length bounds) mostBoundaries 0
           (span-at anchors first (placing placed) rowed all lo hi (λ s. s .start) refl);
-      ends = spans-table words spans (lays .whole) (laid .whole) 1 (omega arith) ∙ laid .ends
-          ∙ table-same (λ j. figureBefore (λ i. span i .end) rows first (place j)) (λ j. last j .end) (length bounds) most 0
+      ends = spans-table words spans (lays .whole) (laid .whole) spanEndsIn (omega arith) ∙ laid .ends
+          ∙ table-same (λ j. figureBefore (λ i. span i .end) rows first (place j)) (λ j. last j .end) (length bounds) mostBoundaries 0
           (span-at anchors first (placing placed) rowed all lo hi (λ s. s .end) refl);
       whole = with-spans-long words spans (lays .whole) (laid .whole);
     }

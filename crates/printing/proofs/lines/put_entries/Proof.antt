@@ -4,44 +4,51 @@ use mathlib.Core.Path.{ap, sym, subst}
 use native.Mathlib.Omega.{arith}
 use lib.ListN.{length}
 use Rattle.text.proofs.Putting.{Putting, begun, goes-on, done, renamed}
-use Rattle.entries.specs.Words.{entryWords}
-use Rattle.entries.specs.EntryFrom.{mostUnits}
-use Rattle.printing.specs.InWords.{linesIn, allLinesIn, Whole, AllWhole}
+use Rattle.limits.specs.Sizes.{entryWords}
+use Rattle.limits.specs.Capacity.{mostUnits}
+use Rattle.printing.specs.inner.InWords.{unitsOf, linesIn, allLinesIn, Whole, AllWhole}
 use Rattle.printing.specs.Rendered.{entryBytes}
 use Rattle.printing.proofs.Turns.{part-from, wordsLeft, entriesLeft, entries-all, entries-turn, entries-end, whole-all, whole-first, whole-later, whole-within}
 use Rattle.printing.proofs.lines.put_entries.Statement.{statement}
 use Rattle.printing.proofs.lines.put_entries.Tie as tie
 
 abbrev Inv-loop : tie.InvT-loop
-Inv-loop out₀ at words count next₀ i₀ out next i =
+Inv-loop out₀ at words most count size₀ next₀ i₀ out next i =
     (i ≤ count)
     × (next ≤ at + entryBytes mostUnits * i)
-    × AllWhole mostUnits (count - i) (wordsLeft mostUnits words i)
-    × Putting out₀ at (allLinesIn (entryWords mostUnits) count words) out next (entriesLeft mostUnits words count i)
+    × AllWhole most (count - i) (wordsLeft most words i)
+    × Putting out₀ at (allLinesIn (entryWords most) count words) out next (entriesLeft most words count i)
 
 abbrev μ-loop : tie.MeasureT-loop
-μ-loop out₀ at words count next₀ i₀ out next i = count - i
+μ-loop out₀ at words most count size₀ next₀ i₀ out next i = count - i
 
 -- the next entry is there
 inside : (c : tie.In-loop Inv-loop μ-loop)
-    → c .before .loop .i * entryWords mostUnits + entryWords mostUnits ≤ length (c .before .before .before .before .args .words .now)
+    → c .before .loop .i * entryWords (c .before .before .before .before .args .most) + entryWords (c .before .before .before .before .args .most) ≤ length (c .before .before .before .before .args .words .now)
 inside c =
     let last = c .before .loop in
     let args = c .before .before .before .before .args in
-    whole-within mostUnits (args .words .now) (args .count) (last .i) (c .loop-test .taken) (last .inv .2)
+    whole-within (args .most) (args .words .now) (args .count) (last .i) (c .loop-test .taken) (last .inv .2)
+
+mul-size : tie.Need-mul-size Inv-loop μ-loop
+mul-size c = omega (arith, c .before .before .pre .0 .0)
+
+add-size : tie.Need-add-size Inv-loop μ-loop
+add-size c = omega (arith, c .before .before .pre .0 .0)
 
 loop-holds : tie.Need-loop-holds Inv-loop μ-loop
 loop-holds c =
     let start = c .before .before in
     let words = start .args .words .now in
     let count = start .args .count in
-    (omega arith, omega arith, whole-all mostUnits words count (start .pre .1), begun (entries-all mostUnits words count))
+    let most = start .args .most in
+    (omega arith, omega arith, whole-all most words count (start .pre .1), begun (entries-all most words count))
 
 mul-from : tie.Need-mul-from Inv-loop μ-loop
-mul-from c = omega arith
+mul-from c = omega (arith, inside c)
 
 mul-put-entry : tie.Need-mul-put-entry Inv-loop μ-loop
-mul-put-entry c = omega arith
+mul-put-entry c = omega (arith, inside (c .before))
 
 sub-put-entry : tie.Need-sub-put-entry Inv-loop μ-loop
 sub-put-entry c = omega (arith, inside (c .before))
@@ -56,8 +63,10 @@ put-entry-requires : tie.Need-put-entry-requires Inv-loop μ-loop
 put-entry-requires c κs =
     let last = c .before .before .before .loop in
     let args = c .before .before .before .before .before .before .args in
-    let whole = whole-first mostUnits (args .words .now) (args .count) (last .i) (c .before .before .loop-test .taken) (last .inv .2) in
-    (omega arith, subst (Whole mostUnits) (sym (part-from (last .i * entryWords mostUnits) (args .words .now))) whole)
+    let first = whole-first (args .most) (args .words .now) (args .count) (last .i) (c .before .before .loop-test .taken) (last .inv .2) in
+    let whole = subst (Whole (args .most)) (sym (part-from (last .i * entryWords (args .most)) (args .words .now))) first in
+    let few = c .before .before .before .before .before .before .pre .0 .0 in
+    (omega (arith, whole .few, few), omega (arith, whole .few, whole .there))
 
 add-i : tie.Need-add-i Inv-loop μ-loop
 add-i c = omega arith
@@ -70,13 +79,17 @@ loop-again c =
     let lines = c .before .before .put-entry .ensures in
     let taken = c .before .before .before .before .before .loop-test .taken in
     let last = c .before .before .before .before .before .before .loop in
-    let count = c .before .before .before .before .before .before .before .before .before .args .count in
-    let words = c .before .before .before .before .before .before .before .before .before .args .words .now in
-    let same = ap linesIn (part-from (last .i * entryWords mostUnits) words) in (
+    let start = c .before .before .before .before .before .before .before .before .before in
+    let count = start .args .count in
+    let words = start .args .words .now in
+    let most = start .args .most in
+    let part = part-from (last .i * entryWords most) words in
+    let first = whole-first most words count (last .i) taken (last .inv .2) in
+    let units = ap unitsOf part in (
       omega arith,
       omega arith,
-      whole-later mostUnits words count (last .i) taken (last .inv .2),
-      goes-on (last .inv .3) (entries-turn mostUnits words count (last .i) taken) (renamed same (lines .short) lines),
+      whole-later most words count (last .i) taken (last .inv .2),
+      goes-on {m = entryBytes mostUnits} (last .inv .3) (entries-turn most words count (last .i) taken) (renamed (ap linesIn part) (omega (arith, lines .short, units, first .few, start .pre .0 .0)) lines),
     )
 
 same-length : tie.Need-same-length Inv-loop μ-loop
@@ -86,7 +99,7 @@ returns : tie.Need-returns Inv-loop μ-loop
 returns c =
     let last = c .before .loop in
     let args = c .before .before .before .before .args in
-    done (last .inv .3) (entries-end mostUnits (args .words .now) (args .count) (last .i) (c .loop-test .left)) (omega arith)
+    done (last .inv .3) (entries-end (args .most) (args .words .now) (args .count) (last .i) (c .loop-test .left)) (omega arith)
 
 pub put-entries-spec : {M : Type 1} → statement M
 put-entries-spec =
@@ -94,6 +107,8 @@ put-entries-spec =
     (tie.spec
     Inv-loop
     μ-loop
+    mul-size
+    add-size
     loop-holds
     mul-from
     mul-put-entry

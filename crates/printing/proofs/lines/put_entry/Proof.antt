@@ -5,9 +5,10 @@ use mathlib.Core.Path.{ap}
 use native.Mathlib.Omega.{arith}
 use borrow.Author.Needs.{needs}
 use lib.ListN.{getD}
+use Rattle.limits.specs.Sizes.{headWords}
 use Rattle.text.proofs.Putting.{then, renamed}
 use Rattle.printing.specs.Listing.{headLine, unitLines}
-use Rattle.printing.specs.InWords.{unitsIn, linesIn}
+use Rattle.printing.specs.inner.InWords.{unitsOf, unitsIn, linesIn}
 use Rattle.printing.proofs.Turns.{part-from}
 use Rattle.printing.proofs.lines.put_entry.Statement.{statement}
 use Rattle.printing.proofs.lines.put_entry.Tie as tie
@@ -51,10 +52,10 @@ returns c =
     let head = c .before .before .before .before .before .before .before in
     let start = head .before .before .before .before .before .before .before .before in
     let words = start .args .words .now in
-    let line = headLine (getD words 0 0) (getD words 1 0) (getD words 2 0) (getD words 3 0) in
+    let line = headLine (getD words 0 0) (getD words 1 0) (getD words 2 0) (unitsOf words) in
     let both = then (head .put-head .ensures) (c .before .before .put-units .ensures) in
-    let same = ap (λ (rest : List ℕ). line ++ unitLines (unitsIn (getD words 3 0) rest)) (part-from 4 words) in
-    renamed same (omega (arith, both .short, start .pre .1 .few)) both
+    let same = ap (λ (rest : List ℕ). line ++ unitLines (unitsIn (unitsOf words) rest)) (part-from headWords words) in
+    renamed same (omega (arith, both .short)) both
 
 pub put-entry-spec : {M : Type 1} → statement M
 put-entry-spec =

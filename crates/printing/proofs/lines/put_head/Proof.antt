@@ -2,7 +2,7 @@
 use borrow.Author.Needs.{needs}
 use Rattle.text.proofs.Putting.{then}
 use Rattle.printing.specs.Listing.{headLine}
-use Rattle.printing.specs.InWords.{nameText}
+use Rattle.printing.specs.inner.InWords.{nameText}
 use Rattle.printing.proofs.lines.put_head.Statement.{statement}
 use Rattle.printing.proofs.lines.put_head.Tie as tie
 

@@ -1,7 +1,7 @@
 -- `put_name`: its parts, one after the other.
 use borrow.Author.Needs.{needs}
 use Rattle.text.proofs.Putting.{then}
-use Rattle.printing.specs.InWords.{nameText}
+use Rattle.printing.specs.inner.InWords.{nameText}
 use Rattle.printing.proofs.lines.put_name.Statement.{statement}
 use Rattle.printing.proofs.lines.put_name.Tie as tie
 

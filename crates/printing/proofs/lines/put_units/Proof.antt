@@ -3,7 +3,7 @@ use Prim.Native.Nat.{_+_, _-_, _*_, _≤_}
 use native.Mathlib.Omega.{arith}
 use Rattle.text.proofs.Putting.{Putting, begun, goes-on, done}
 use Rattle.printing.specs.Listing.{unitLines}
-use Rattle.printing.specs.InWords.{unitsIn}
+use Rattle.printing.specs.inner.InWords.{unitsIn}
 use Rattle.printing.specs.Rendered.{unitLineBytes}
 use Rattle.printing.proofs.Turns.{unitsLeft, units-all, units-turn, units-end}
 use Rattle.printing.proofs.lines.put_units.Statement.{statement}

@@ -1,7 +1,7 @@
 -- `put_decoded`: its parts, one after the other.
 use borrow.Author.Needs.{needs}
 use Rattle.text.proofs.Putting.{then}
-use Rattle.printing.specs.InWords.{decodedIn}
+use Rattle.printing.specs.inner.InWords.{decodedIn}
 use Rattle.printing.proofs.render.put_decoded.Statement.{statement}
 use Rattle.printing.proofs.render.put_decoded.Tie as tie
 

@@ -9,7 +9,7 @@ use lib.Ieee.{binary32, binary64, ofBits, nanBits}
 use Rattle.phrase.specs.Phrase.{Phrase}
 use Rattle.record.specs.Meaning.{phraseAt, costsAt}
 use Rattle.record.specs.Bytes.{u32At, u64At}
-use Rattle.record.specs.Accepted.{Laid}
+use Rattle.record.specs.inner.Accepted.{Laid}
 use Rattle.record.proofs.Accepted.{meaning, fit-at}
 use Rattle.record.proofs.Reading.{sections, real-bits, within-real}
 use Rattle.record.specs.declared.layout.Layout.{Layout}

@@ -7,7 +7,7 @@ use denote.Ref.{now}
 use lib.Dec.{T}
 use lib.Ieee.{binary64, ofBits, isNan}
 use Rattle.record.specs.Meaning.{durationAt}
-use Rattle.record.specs.Reading.{tableStart}
+use Rattle.record.specs.inner.Reading.{tableStart}
 use Rattle.record.proofs.Reading.{sections, table-within, duration-is, duration-within, real-bits, within-real}
 use borrow.Author.Needs.{needs}
 use Rattle.reading.proofs.read.duration.Statement.{statement}

@@ -6,7 +6,7 @@ use denote.Ref.{now}
 use lib.ListN.{length, take, drop, length-drop}
 use lib.Seq.{take-all}
 use native.Mathlib.Nat.{le-of-eq}
-use Rattle.record.specs.Reading.{rowStart, ScoreRow}
+use Rattle.record.specs.inner.Reading.{rowStart, ScoreRow}
 use Rattle.reading.proofs.Rows.{row-within, score-row}
 use borrow.Author.Needs.{needs}
 use Rattle.reading.proofs.read.score_row.Statement.{statement}

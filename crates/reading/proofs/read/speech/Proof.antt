@@ -8,7 +8,8 @@ use lib.Dec.{eqb}
 use Rattle.laws.proofs.Choices.{taken, passed}
 use Rattle.phrase.specs.Phrase.{Phrase, spoken}
 use Rattle.record.specs.Meaning.{phraseAt}
-use Rattle.record.specs.Conditions.{noFrame, speechStart, speechEnd}
+use Rattle.limits.specs.Common.{absent}
+use Rattle.record.specs.Conditions.{speechStart, speechEnd}
 use Rattle.record.proofs.Accepted.{meaning}
 use Rattle.record.proofs.Reading.{sections}
 use Rattle.reading.proofs.read.speech.Statement.{statement}
@@ -27,8 +28,8 @@ u32-at-requires-2 : tie.Need-u32-at-requires-2
 u32-at-requires-2 c κs = omega (arith, sections (c .before .before .before .before .pre) .costs)
 
 -- whether the edges say no speech
-silence : (c : tie.After-u32-at2) → (eqb (speechStart (now (c .before .before .before .before .before .args .bytes)) (c .before .before .before .before .before .args .at .costs)) noFrame && eqb (speechEnd (now (c .before .before .before .before .before .args .bytes)) (c .before .before .before .before .before .args .at .costs)) noFrame) ≡ (eqb (c .before .before .u32-at .result) noFrame && eqb (c .u32-at2 .result) noFrame)
-silence c = ap₂ (λ (s e : ℕ). eqb s noFrame && eqb e noFrame) (sym (c .before .before .u32-at .ensures)) (sym (c .u32-at2 .ensures))
+silence : (c : tie.After-u32-at2) → (eqb (speechStart (now (c .before .before .before .before .before .args .bytes)) (c .before .before .before .before .before .args .at .costs)) absent && eqb (speechEnd (now (c .before .before .before .before .before .args .bytes)) (c .before .before .before .before .before .args .at .costs)) absent) ≡ (eqb (c .before .before .u32-at .result) absent && eqb (c .u32-at2 .result) absent)
+silence c = ap₂ (λ (s e : ℕ). eqb s absent && eqb e absent) (sym (c .before .before .u32-at .ensures)) (sym (c .u32-at2 .ensures))
 
 returns : tie.Need-returns
 unfolding phraseAt

@@ -1,6 +1,6 @@
 -- Each stage has its own table.
 use mathlib.Core.Path.{sym, ap}
-use Rattle.record.specs.Reading.{tableStart}
+use Rattle.record.specs.inner.Reading.{tableStart}
 use Rattle.record.specs.declared.read.Which.{Which}
 use borrow.Author.Needs.{needs}
 use Rattle.reading.proofs.read.table_start.Statement.{statement}

@@ -4,22 +4,22 @@ use denote.Ref.{now}
 use lib.ListN.{length}
 use Rattle.laws.proofs.Listed.{length-listed}
 use Rattle.phrase.specs.Phrase.{Candidate}
-use Rattle.record.specs.Edition.{edition1}
-use Rattle.record.specs.Bounds.{CandidatesRead}
-use Rattle.record.specs.declared.limits.Limits.{Limits}
+use Rattle.record.specs.Layout.{limitsAt}
+use Rattle.record.specs.inner.Bounds.{CandidatesRead}
+use Rattle.limits.specs.declared.edition.Limits.{Limits}
 use Rattle.record.proofs.Reading.{candidates-read, candidate-there, candidate-is}
 use Rattle.record.specs.Conditions.{unitsAt, columnAt}
 use borrow.Author.Needs.{needs}
 use Rattle.reading.proofs.read.units.Statement.{statement}
 use Rattle.reading.proofs.read.units.Tie as tie
 
-edition-1-requires : tie.Need-edition-1-requires
-edition-1-requires c κs = search needs
+limits-of-requires : tie.Need-limits-of-requires
+limits-of-requires c κs = search needs
 
 units-at-requires : tie.Need-units-at-requires
 units-at-requires c κs =
     let start = c .before .before in (
-      subst⁻¹ (λ (l : Limits). CandidatesRead l (length (now (start .args .bytes))) (start .args .at)) (c .edition-1 .ensures) (candidates-read (start .pre .0)),
+      subst⁻¹ (λ (l : Limits). CandidatesRead l (length (now (start .args .bytes))) (start .args .at)) (c .limits-of .ensures) (candidates-read (start .pre .0)),
       candidate-there (start .pre .0) (start .pre .1),
     )
 
@@ -27,9 +27,9 @@ returns : tie.Need-returns
 returns c =
     let start = c .before .before .before in
     c .units-at .ensures
-    ∙ ap (λ (l : Limits). unitsAt l (now (start .args .bytes)) (start .args .at) (start .args .i)) (c .before .edition-1 .ensures)
-    ∙ sym (length-listed (columnAt edition1 (now (start .args .bytes)) (start .args .at) (start .args .i)) _)
+    ∙ ap (λ (l : Limits). unitsAt l (now (start .args .bytes)) (start .args .at) (start .args .i)) (c .before .limits-of .ensures)
+    ∙ sym (length-listed (columnAt (limitsAt (start .args .at)) (now (start .args .bytes)) (start .args .at) (start .args .i)) _)
     ∙ ap (λ (x : Candidate). length (x .columns)) (candidate-is (start .pre .0) (start .pre .1))
 
 pub units-spec : {M : Type 1} → statement M
-units-spec = tie.close (tie.spec edition-1-requires units-at-requires returns)
+units-spec = tie.close (tie.spec limits-of-requires units-at-requires returns)

@@ -10,7 +10,7 @@ use lib.ListN.{getD}
 use borrow.Author.Needs.{needs}
 use Rattle.paths.specs.Problem.{Problem}
 use Rattle.paths.specs.Cell.{Cell, empty, held, keep, best as bestOf, carry}
-use Rattle.paths.specs.Marks.{Marked, chosenEnd, End as Ended}
+use Rattle.paths.specs.inner.Marks.{Marked, chosenEnd, End as Ended}
 use Rattle.rows.specs.declared.end.End.{End}
 use Rattle.rows.specs.Ends.{endedBy, orEnd, higherEnd, StopsOf}
 use Rattle.rows.specs.Rows.{Row, first}

@@ -2,6 +2,7 @@
 use mathlib.Core.Path.{_≡_, sym, ap, _∙_}
 use Prim.Native.Nat.{ℕ, _+_, max}
 use native.Mathlib.Omega.{arith}
+use Rattle.stages.specs.Lists.{lowsAt}
 use Rattle.rows.specs.Reads.{scoreRead}
 use Rattle.rows.specs.Units.{RowTables, rowTables, lowAt, endAt}
 use Rattle.rows.proofs.Kept.{low-is, end-is, middle-inside, unit-read, alone-later, cell-gap, cell-units, cell-both}
@@ -46,7 +47,7 @@ shared-slice-read-larger : tie.Need-shared-slice-read-larger
 shared-slice-read-larger c = search needs
 
 cast-larger : tie.Need-cast-larger
-cast-larger c = omega (arith, c .shared-slice-known5 .given (64 + c .before .before .before .before .before .args .j))
+cast-larger c = omega (arith, c .shared-slice-known5 .given (lowsAt + c .before .before .before .before .before .args .j))
 
 larger-requires : tie.Need-larger-requires
 larger-requires c κs = search needs

@@ -12,7 +12,7 @@ use borrow.Author.Needs.{needs}
 use Rattle.laws.proofs.Numbers.{by-order}
 use Rattle.paths.specs.Problem.{Problem}
 use Rattle.paths.specs.Cell.{Cell, empty, held}
-use Rattle.paths.specs.Marks.{Marked, marks}
+use Rattle.paths.specs.inner.Marks.{Marked, marks}
 use Rattle.rows.specs.declared.way.Way.{Way}
 use Rattle.rows.specs.Ways.{wayValue, wayMark}
 use Rattle.rows.specs.Rows.{Row, HoldsAt, Same, GapsOf, first, next, unfilled}

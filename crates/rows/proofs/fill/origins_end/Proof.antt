@@ -1,8 +1,8 @@
 -- `rows::fill::origins_end` meets its contract. Assumes nothing.
-use Prim.Native.Nat.{_+_, _*_}
+use Prim.Native.Nat.{_+_}
 use native.Mathlib.Omega.{arith}
 use borrow.Author.Needs.{needs}
-use Rattle.stages.specs.Room.{most}
+use Rattle.stages.specs.Lists.{middlesAt, highsAt}
 use Rattle.rows.proofs.fill.origins_end.Statement.{statement}
 use Rattle.rows.proofs.fill.origins_end.Tie as tie
 
@@ -19,7 +19,7 @@ shared-slice-read-result : tie.Need-shared-slice-read-result
 shared-slice-read-result c = search needs
 
 cast-result : tie.Need-cast-result
-cast-result c = omega (arith, c .shared-slice-known .given (2 * most + c .before .before .before .args .j))
+cast-result c = omega (arith, c .shared-slice-known .given (middlesAt + c .before .before .before .args .j))
 
 enum-told-2 : tie.Need-enum-told-2
 enum-told-2 c = search needs
@@ -34,7 +34,7 @@ shared-slice-read-result-2 : tie.Need-shared-slice-read-result-2
 shared-slice-read-result-2 c = search needs
 
 cast-result-2 : tie.Need-cast-result-2
-cast-result-2 c = omega (arith, c .shared-slice-known2 .given (3 * most + c .before .before .before .args .j))
+cast-result-2 c = omega (arith, c .shared-slice-known2 .given (highsAt + c .before .before .before .args .j))
 
 returns : tie.Need-returns
 returns c = rw (c .before .enum-told .given .1)

@@ -1,8 +1,8 @@
 -- `rows::reached::first_reached` meets its contract. Assumes nothing.
-use Prim.Native.Nat.{_+_, _*_}
+use Prim.Native.Nat.{_+_}
 use native.Mathlib.Omega.{arith}
 use borrow.Author.Needs.{needs}
-use Rattle.stages.specs.Room.{most, counts}
+use Rattle.stages.specs.Lists.{sinceStrictAt, sinceRelaxedAt}
 use Rattle.rows.proofs.reached.first_reached.Statement.{statement}
 use Rattle.rows.proofs.reached.first_reached.Tie as tie
 
@@ -19,7 +19,7 @@ shared-slice-read-result : tie.Need-shared-slice-read-result
 shared-slice-read-result c = search needs
 
 cast-result : tie.Need-cast-result
-cast-result c = omega (arith, c .shared-slice-known .given (7 * most + c .before .before .before .args .units))
+cast-result c = omega (arith, c .shared-slice-known .given (sinceStrictAt + c .before .before .before .args .units))
 
 enum-told-2 : tie.Need-enum-told-2
 enum-told-2 c = search needs
@@ -34,7 +34,7 @@ shared-slice-read-result-2 : tie.Need-shared-slice-read-result-2
 shared-slice-read-result-2 c = search needs
 
 cast-result-2 : tie.Need-cast-result-2
-cast-result-2 c = omega (arith, c .shared-slice-known2 .given (7 * most + counts + c .before .before .before .args .units))
+cast-result-2 c = omega (arith, c .shared-slice-known2 .given (sinceRelaxedAt + c .before .before .before .args .units))
 
 returns : tie.Need-returns
 returns c = rw (c .before .enum-told .given .1)

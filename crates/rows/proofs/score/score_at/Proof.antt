@@ -1,9 +1,9 @@
 -- `rows::score::score_at` meets its contract. Assumes nothing.
 use mathlib.Core.Path.{_∙_}
-use Prim.Native.Nat.{_+_, _*_}
+use Prim.Native.Nat.{_+_}
 use native.Mathlib.Omega.{arith}
 use borrow.Author.Needs.{needs}
-use Rattle.stages.specs.Room.{most}
+use Rattle.stages.specs.Lists.{rowsAt}
 use Rattle.rows.proofs.score.score_at.Statement.{statement}
 use Rattle.rows.proofs.score.score_at.Tie as tie
 
@@ -17,7 +17,7 @@ shared-slice-read-row : tie.Need-shared-slice-read-row
 shared-slice-read-row c = search needs
 
 cast-row : tie.Need-cast-row
-cast-row c = omega (arith, c .shared-slice-known3 .given (4 * most + c .before .before .before .args .j))
+cast-row c = omega (arith, c .shared-slice-known3 .given (rowsAt + c .before .before .before .args .j))
 
 score-row-requires : tie.Need-score-row-requires
 score-row-requires c κs =

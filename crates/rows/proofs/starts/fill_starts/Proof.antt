@@ -2,7 +2,7 @@
 use mathlib.Core.List.{List}
 use mathlib.Core.Logic.{_⊎_, inl, inr, ⊎-elim}
 use mathlib.Core.Path.{_≡_, refl, sym, ap, subst, _∙_}
-use Prim.Native.Nat.{ℕ, zero, suc, _+_, _-_, _*_, _≤_, _<_}
+use Prim.Native.Nat.{ℕ, zero, suc, _+_, _-_, _≤_, _<_}
 use native.Mathlib.Nat.{le-refl}
 use native.Mathlib.Omega.{arith}
 use lib.Ieee.{Float, binary64, sub, nan}
@@ -13,9 +13,9 @@ use borrow.Author.Needs.{needs}
 use Rattle.paths.specs.Problem.{Problem}
 use Rattle.paths.specs.Cell.{Cell, held, keep, carry}
 use Rattle.paths.specs.CellRule.{rows, sweep}
-use Rattle.paths.specs.Marks.{Marked, marks}
-use Rattle.stages.specs.Room.{most}
-use Rattle.stages.specs.Tables.{tableAt}
+use Rattle.paths.specs.inner.Marks.{Marked, marks}
+use Rattle.limits.specs.Capacity.{mostBoundaries}
+use Rattle.stages.specs.Lists.{startsAt, gapsAt, tableAt}
 use Rattle.rows.specs.declared.way.Way.{Way}
 use Rattle.rows.specs.declared.way.Way.the-variants.{Start, Gap}
 use Rattle.rows.specs.Ways.{wayValue, wayMark, Markable, markedBy, orLater}
@@ -30,7 +30,7 @@ startWay : List Float → ℕ → Way
 startWay figures j = Start (getD figures j nan)
 
 gapWay : List Float → List Float → ℕ → Way
-gapWay best figures j = Gap (sub binary64 (getD best (j - 1) nan) (getD figures (64 + j - 1) nan))
+gapWay best figures j = Gap (sub binary64 (getD best (j - 1) nan) (getD figures (gapsAt + j - 1) nan))
 
 -- the row of no units: at a later boundary, the gap after the start
 next-start :
@@ -43,12 +43,12 @@ next-start q (suc j) h =
     rw is
 
 gap-from :
-    (q : Problem) (figures best : List Float) (mark j : ℕ) → 0 < j → getD (tableAt 1 figures) (j - 1) nan ≡ q .gapCost (j - 1) →
-    getD (tableAt 1 figures) (j - 1) nan ≡ getD figures (1 * most + (j - 1)) nan →
+    (q : Problem) (figures best : List Float) (mark j : ℕ) → 0 < j → getD (tableAt gapsAt figures) (j - 1) nan ≡ q .gapCost (j - 1) →
+    getD (tableAt gapsAt figures) (j - 1) nan ≡ getD figures (gapsAt + (j - 1)) nan →
     carry (marks q .overGap (j - 1)) (held (record { value = getD best (j - 1) nan; mark = mark })) ≡ held (markedBy (gapWay best figures j))
 unfolding carry marks gapWay
 gap-from q figures best mark j h cost table =
-    let place : 1 * most + (j - 1) ≡ 64 + j - 1 = omega arith in
+    let place : gapsAt + (j - 1) ≡ gapsAt + j - 1 = omega arith in
     rw (← cost, table, place)
 
 -- boundaries below j have their cell, and the cells from j on are as they were
@@ -57,26 +57,26 @@ record Started (figures : List Float) (n : ℕ) (best₀ : List Float) (back₀ 
   valued : length best ≡ length best₀
   marked : length back ≡ length back₀
   done :
-      (q : Problem) → StartsOf q (tableAt 0 figures) n → GapsOf q (tableAt 1 figures) n → (i : ℕ) → i < j → Filled best back i (rows q (marks q) 0 i)
+      (q : Problem) → StartsOf q (tableAt startsAt figures) n → GapsOf q (tableAt gapsAt figures) n → (i : ℕ) → i < j → Filled best back i (rows q (marks q) 0 i)
   rest : (at : ℕ) → j ≤ at → Same best₀ back₀ best back at
 
-module _ {figures : List Float} {n : ℕ} {best₀ : List Float} {back₀ : List ℕ} {best : List Float} {back : List ℕ} {j : ℕ} (few : n ≤ most)
+module _ {figures : List Float} {n : ℕ} {best₀ : List Float} {back₀ : List ℕ} {best : List Float} {back : List ℕ} {j : ℕ} (few : n ≤ mostBoundaries)
     (was : Started figures n best₀ back₀ best back j) (more : j < n) where
   -- what the row has at boundary j
   starts-at :
-      (q : Problem) → StartsOf q (tableAt 0 figures) n → held (marks q .fresh j) ≡ held (markedBy (startWay figures j))
+      (q : Problem) → StartsOf q (tableAt startsAt figures) n → held (marks q .fresh j) ≡ held (markedBy (startWay figures j))
   unfolding marks startWay
   starts-at q starts =
-      let place : 0 * most + j ≡ j = omega arith in
-      rw (← starts j more, table-at 0 figures j nan (omega arith), place)
+      let place : startsAt + j ≡ j = omega arith in
+      rw (← starts j more, table-at startsAt figures j nan (omega arith), place)
 
   first-row :
-      (q : Problem) → StartsOf q (tableAt 0 figures) n → j ≡ 0 → rows q (marks q) 0 j ≡ held (markedBy (startWay figures j))
+      (q : Problem) → StartsOf q (tableAt startsAt figures) n → j ≡ 0 → rows q (marks q) 0 j ≡ held (markedBy (startWay figures j))
   unfolding rows sweep
   first-row q starts e = subst (λ (i : ℕ). rows q (marks q) 0 i ≡ held (marks q .fresh i)) (sym e) refl ∙ starts-at q starts
 
   later-row :
-      (q : Problem) → StartsOf q (tableAt 0 figures) n → GapsOf q (tableAt 1 figures) n → 0 < j →
+      (q : Problem) → StartsOf q (tableAt startsAt figures) n → GapsOf q (tableAt gapsAt figures) n → 0 < j →
       rows q (marks q) 0 j ≡ held (markedBy (orLater (startWay figures j) (gapWay best figures j)))
   later-row q starts gaps h =
       next-start q j h
@@ -84,12 +84,12 @@ module _ {figures : List Float} {n : ℕ} {best₀ : List Float} {back₀ : List
       (ap (keep higher (held (markedBy (startWay figures j)))) (carried q gaps) ∙ sym (or-keeps (startWay figures j) (gapWay best figures j)))
     where
       carried :
-          (q : Problem) → GapsOf q (tableAt 1 figures) n →
+          (q : Problem) → GapsOf q (tableAt gapsAt figures) n →
           carry (marks q .overGap (j - 1)) (held (record { value = getD best (j - 1) nan; mark = getD back (j - 1) 0 })) ≡ held (markedBy (gapWay best figures j))
-      carried q gaps = gap-from q figures best (getD back (j - 1) 0) j h (gaps (j - 1) (omega arith)) (table-at 1 figures (j - 1) nan (omega arith))
+      carried q gaps = gap-from q figures best (getD back (j - 1) 0) j h (gaps (j - 1) (omega arith)) (table-at gapsAt figures (j - 1) nan (omega arith))
 
   module _ (b : n ≤ length best₀) (m : n ≤ length back₀) (way : Way) (value : Float) (mark : ℕ) (valued : value ≡ wayValue way) (marked : mark ≡ wayMark way)
-      (kept : (q : Problem) → StartsOf q (tableAt 0 figures) n → GapsOf q (tableAt 1 figures) n → rows q (marks q) 0 j ≡ held (markedBy way)) where
+      (kept : (q : Problem) → StartsOf q (tableAt startsAt figures) n → GapsOf q (tableAt gapsAt figures) n → rows q (marks q) 0 j ≡ held (markedBy way)) where
     beside : (at : ℕ) → (at ≡ j → ⊥) → Same best back (set best j value) (set back j mark) at
     beside = stored-beside best back j value mark
 
@@ -128,7 +128,7 @@ kept-markable c =
 kept-row :
     (c : tie.Joined1 Inv-loop μ-loop) →
     let a = c .before .before .before .before .before .before .before .args in
-    (q : Problem) → StartsOf q (tableAt 0 (a .figures .now)) (a .n) → GapsOf q (tableAt 1 (a .figures .now)) (a .n) →
+    (q : Problem) → StartsOf q (tableAt startsAt (a .figures .now)) (a .n) → GapsOf q (tableAt gapsAt (a .figures .now)) (a .n) →
     rows q (marks q) 0 (c .before .before .before .loop .j) ≡ held (markedBy (c .if1 .kept))
 kept-row c q starts gaps =
     let start = c .before .before .before .before .before .before .before in

@@ -6,10 +6,11 @@ use Prim.Native.Nat.{ℕ, zero, suc, _+_, _-_, _*_, _≤_, _<_}
 use native.Mathlib.Nat.{mul-le-mul-right}
 use native.Mathlib.Omega.{arith}
 use lib.ListN.{length, set, replicate, length-map, replicate-append-replicate}
-use Rattle.paths.specs.Marks.{Traces}
+use Rattle.paths.specs.inner.Marks.{Traces}
 use Rattle.paths.specs.Path.{Bounds}
 use Rattle.paths.proofs.Marks.{UnitBefore, traces-same, trace-start, trace-gap, trace-unit, trace-marked, trace-count}
-use Rattle.rows.specs.Traced.{markIn, mostUnits, firstsOf, lastsOf, UnitsAre}
+use Rattle.limits.specs.Capacity.{mostUnits}
+use Rattle.rows.specs.Traced.{markIn, firstsOf, lastsOf, UnitsAre}
 use Rattle.rows.proofs.trace.trace.Statement.{statement}
 use Rattle.rows.proofs.trace.trace.Tie as tie
 

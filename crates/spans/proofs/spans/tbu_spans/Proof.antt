@@ -1,13 +1,15 @@
 -- `tbu_spans`: the tests are those of `tbuSpansOf` in its order, and the output is written only after the last.
-use mathlib.Core.Path.{_≡_, refl, ap}
+use mathlib.Core.Path.{_≡_, refl}
 use mathlib.Core.Bool.{Bool, false, _||_}
 use native.Mathlib.Omega.{arith}
 use lib.Dec.{ltb}
 use lib.ListN.{length}
 use borrow.Author.Needs.{needs}
 use borrow.Author.Tests.{lt-ltb, le-ltb}
-use Rattle.laws.proofs.Choices.{neither-left, taken, passed}
-use Rattle.frames.specs.Outcome.{accepted, anyAbove, lastFrame}
+use Rattle.limits.specs.Common.{lastFrame}
+use Rattle.laws.proofs.Choices.{neither-left}
+use Rattle.frames.specs.Outcome.{anyAbove}
+use Rattle.frames.proofs.Outcomes.{refuses, leaves, answers}
 use Rattle.spans.specs.Spans.{tbuSpansOf}
 use Rattle.frames.proofs.Ascending.{ascending-le}
 use Rattle.spans.proofs.spans.tbu_spans.Statement.{statement}
@@ -15,7 +17,7 @@ use Rattle.spans.proofs.spans.tbu_spans.Tie as tie
 
 returns : tie.Need-returns
 unfolding tbuSpansOf
-returns c = record { answered = taken _ (c .if1 .taken); output = refl }
+returns c = record { answered = refuses _ _ (c .if1 .taken); output = refl }
 
 any-above-requires : tie.Need-any-above-requires
 any-above-requires c κs = search needs
@@ -27,7 +29,7 @@ returns-2 : tie.Need-returns-2
 unfolding tbuSpansOf
 returns-2 c =
     record {
-      answered = passed _ (c .before .before .before .if1 .left) (taken _ (rw (c .before .before .any-above .ensures, c .before .any-above2 .ensures) at (c .if2 .taken)));
+      answered = leaves _ _ _ (c .before .before .before .if1 .left) (refuses _ _ (rw (c .before .before .any-above .ensures, c .before .any-above2 .ensures) at (c .if2 .taken)));
       output = refl;
     }
 
@@ -56,7 +58,7 @@ returns-3 : tie.Need-returns-3
 unfolding tbuSpansOf
 returns-3 c =
     let short = rw (c .before .distinct .ensures) at (lt-ltb _ _ (c .if3 .taken)) in
-    record { answered = passed _ (c .before .before .before .before .before .if1 .left) (passed _ (fit (c .before .before)) (taken _ short)); output = refl }
+    record { answered = leaves _ _ _ (c .before .before .before .before .before .if1 .left) (leaves _ _ _ (fit (c .before .before)) (refuses _ _ short)); output = refl }
 
 write-spans-requires : tie.Need-write-spans-requires
 write-spans-requires c κs =
@@ -71,7 +73,7 @@ returns-4 c =
     let count = c .before .before .before .before .before .distinct .ensures in
     let enough = rw count at (le-ltb _ _ (c .before .before .before .before .if3 .left)) in
     record {
-      answered = passed _ (c .before .before .before .before .before .before .before .before .before .if1 .left) (passed _ (fit (c .before .before .before .before .before .before)) (passed _ enough (ap accepted count)));
+      answered = leaves _ _ _ (c .before .before .before .before .before .before .before .before .before .if1 .left) (leaves _ _ _ (fit (c .before .before .before .before .before .before)) (leaves _ _ _ enough (answers count)));
       output = c .before .before .write-spans .ensures;
     }
 

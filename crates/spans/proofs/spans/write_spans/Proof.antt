@@ -6,7 +6,7 @@ use native.Mathlib.Omega.{arith}
 use lib.ListN.{length, length-set}
 use borrow.Author.Needs.{needs}
 use Rattle.frames.specs.Frames.{lowestFrom}
-use Rattle.frames.specs.Outcome.{lastFrame}
+use Rattle.limits.specs.Common.{lastFrame}
 use Rattle.spans.specs.Spans.{spanOf, spansOf, wordsOf, Writable}
 use Rattle.frames.specs.declared.span.Span.{Span}
 use Rattle.frames.specs.declared.list.Nearest.the-variants.{None, At}

@@ -3,7 +3,7 @@ use Prim.Native.Nat.{_-_}
 use native.Mathlib.Omega.{arith}
 use borrow.Author.Count.{below-more}
 use lib.ListN.{length}
-use Rattle.spans.specs.Walk.{Below}
+use Rattle.spans.specs.inner.Walk.{Below}
 use Rattle.spans.proofs.walk.below.Statement.{statement}
 use Rattle.spans.proofs.walk.below.Tie as tie
 

@@ -7,7 +7,7 @@ use borrow.Author.Needs.{needs}
 use lib.ListN.{length}
 use Rattle.laws.proofs.Filling.{Filling, filling-none, filling-more, filling-all}
 use Rattle.laws.proofs.Rewriting.{filling-next, filling-kept}
-use Rattle.spans.specs.Walk.{cutStart, cutEnd}
+use Rattle.spans.specs.inner.Walk.{cutStart, cutEnd}
 use Rattle.spans.proofs.CutEdges.{turn-start, turn-end, last-end}
 use Rattle.spans.proofs.Splits.{climbs-next}
 use Rattle.spans.proofs.walk.cut_overlaps.Statement.{statement}

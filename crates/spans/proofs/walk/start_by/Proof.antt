@@ -3,7 +3,7 @@ use Prim.Native.Nat.{suc, _-_}
 use mathlib.Core.Path.{_≡_, subst}
 use native.Mathlib.Omega.{arith}
 use borrow.Author.Needs.{needs}
-use Rattle.spans.specs.Walk.{Splits}
+use Rattle.spans.specs.inner.Walk.{Splits}
 use Rattle.spans.proofs.Splits.{none-before, highest-before}
 use Rattle.spans.proofs.walk.start_by.Statement.{statement}
 use Rattle.spans.proofs.walk.start_by.Tie as tie

@@ -4,7 +4,7 @@ use native.Mathlib.Omega.{arith}
 use lib.ListN.{length, getD}
 use Rattle.laws.proofs.Filling.{Filling, filling-none, filling-more, filling-all}
 use Rattle.spans.specs.Spans.{uncutStart, uncutEnd}
-use Rattle.spans.specs.Walk.{Below}
+use Rattle.spans.specs.inner.Walk.{Below}
 use Rattle.spans.proofs.Splits.{below-higher, climbs-next}
 use Rattle.spans.proofs.walk.uncut.Statement.{statement}
 use Rattle.spans.proofs.walk.uncut.Tie as tie

@@ -1,7 +1,7 @@
 -- What is passed is below the bound; the frame that stops the walk is not.
 use Prim.Native.Nat.{_≤_, _<_, _-_}
 use native.Mathlib.Omega.{arith}
-use Rattle.stages.specs.Tables.{beyond}
+use Rattle.limits.specs.Common.{absent}
 use Rattle.stages.specs.Places.{countBelow}
 use Rattle.stages.proofs.Places.{is-below, not-below}
 use Rattle.stages.proofs.anchors.advance.Statement.{statement}
@@ -16,7 +16,7 @@ abbrev μ-loop : tie.MeasureT-loop
 passed : (c : tie.Then1 Inv-loop μ-loop)
     → c .before .before .loop .at < countBelow (c .before .before .before .args .frames .now) (c .before .before .before .args .bound)
 passed c =
-    is-below (c .before .before .before .args .frames .now) 0 beyond (c .before .before .before .args .bound) (c .before .before .loop .at)
+    is-below (c .before .before .before .args .frames .now) 0 absent (c .before .before .before .args .bound) (c .before .before .loop .at)
     (c .before .before .before .pre .0) (omega arith) (c .if1 .taken)
 
 loop-holds : tie.Need-loop-holds Inv-loop μ-loop
@@ -42,7 +42,7 @@ returns c =
     let frames = c .before .before .before .args .frames .now in
     let bound = c .before .before .before .args .bound in
     let l = c .before .before .loop in
-    omega (arith, not-below frames 0 beyond bound (l .at) (c .before .before .before .pre .0) (omega arith) (c .if1 .left))
+    omega (arith, not-below frames 0 absent bound (l .at) (c .before .before .before .pre .0) (omega arith) (c .if1 .left))
 
 pub advance-spec : {M : Type 1} → statement M
 advance-spec =

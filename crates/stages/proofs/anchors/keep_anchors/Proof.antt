@@ -8,8 +8,8 @@ use borrow.Author.Needs.{needs}
 use lib.ListN.{length, take, length-set, length-replicate}
 use lib.Seq.{take-length}
 use Rattle.paths.specs.Anchors.{keptIn, select, numbered}
-use Rattle.stages.specs.Room.{room}
-use Rattle.stages.specs.Tables.{beyond}
+use Rattle.limits.specs.Capacity.{anchorRoom}
+use Rattle.limits.specs.Common.{absent}
 use Rattle.stages.specs.Kept.{Keeps}
 use Rattle.stages.proofs.Kept.{keeps-none, keeps-it, drops-it}
 use Rattle.stages.proofs.anchors.keep_anchors.Statement.{statement}
@@ -17,7 +17,7 @@ use Rattle.stages.proofs.anchors.keep_anchors.Tie as tie
 
 abbrev Inv-loop : tie.InvT-loop
 Inv-loop mask anchors first-row frames₀ rows₀ count₀ i₀ frames rows count i =
-    (i ≤ length anchors) × (count ≤ i) × Keeps (keptIn mask first-row (take i anchors)) count frames rows × (length frames ≡ room) × (length rows ≡ room)
+    (i ≤ length anchors) × (count ≤ i) × Keeps (keptIn mask first-row (take i anchors)) count frames rows × (length frames ≡ anchorRoom) × (length rows ≡ anchorRoom)
 
 abbrev μ-loop : tie.MeasureT-loop
 μ-loop mask anchors first-row frames₀ rows₀ count₀ i₀ frames rows count i = length anchors - i
@@ -29,8 +29,8 @@ loop-holds c =
       omega arith,
       omega arith,
       rw (start .pre .1 .0, start .pre .1 .1) keeps-none,
-      ap length (start .pre .1 .0) ∙ length-replicate {A = ℕ} room beyond,
-      ap length (start .pre .1 .1) ∙ length-replicate {A = ℕ} room 0,
+      ap length (start .pre .1 .0) ∙ length-replicate {A = ℕ} anchorRoom absent,
+      ap length (start .pre .1 .1) ∙ length-replicate {A = ℕ} anchorRoom 0,
     )
 
 mul-frame : tie.Need-mul-frame Inv-loop μ-loop
@@ -97,10 +97,10 @@ loop-again c =
     (c .if1 .came)
 
 same-length : tie.Need-same-length Inv-loop μ-loop
-same-length c = c .before .loop .inv .3 ∙ sym (ap length (c .before .before .before .before .before .before .pre .1 .0) ∙ length-replicate {A = ℕ} room beyond)
+same-length c = c .before .loop .inv .3 ∙ sym (ap length (c .before .before .before .before .before .before .pre .1 .0) ∙ length-replicate {A = ℕ} anchorRoom absent)
 
 same-length-2 : tie.Need-same-length-2 Inv-loop μ-loop
-same-length-2 c = c .before .loop .inv .4 ∙ sym (ap length (c .before .before .before .before .before .before .pre .1 .1) ∙ length-replicate {A = ℕ} room 0)
+same-length-2 c = c .before .loop .inv .4 ∙ sym (ap length (c .before .before .before .before .before .before .pre .1 .1) ∙ length-replicate {A = ℕ} anchorRoom 0)
 
 returns : tie.Need-returns Inv-loop μ-loop
 returns c =

@@ -6,7 +6,7 @@ use lib.ListN.{length, length-replicate}
 use Rattle.laws.proofs.Listed.{written-table}
 use Rattle.laws.specs.Listed.{written}
 use Rattle.paths.specs.Anchors.{keptIn}
-use Rattle.stages.specs.Room.{edges}
+use Rattle.limits.specs.Capacity.{mostEdges}
 use Rattle.stages.specs.Places.{placeBefore}
 use Rattle.stages.proofs.Stage.{Orderly, kept-orderly, array-climbs, array-ends, array-long}
 use borrow.Author.Needs.{needs}
@@ -25,7 +25,7 @@ place-boundaries-requires c κs =
     let kept = c .before .before .before .before .before .before .keep-anchors .ensures in (
       (array-climbs (orderly start) (kept .framed), array-ends (orderly start) (kept .framed), omega (arith, array-long (orderly start) (kept .framed))),
       (
-        omega (arith, ap length (start .pre .1 .2) ∙ length-replicate {A = ℕ} edges 0, start .pre .0 .0 .listed .short),
+        omega (arith, ap length (start .pre .1 .2) ∙ length-replicate {A = ℕ} mostEdges 0, start .pre .0 .0 .listed .short),
         start .pre .0 .0 .listed .ascending,
       ),
     )
@@ -47,7 +47,7 @@ returns c =
     let place = placeBefore (keeping .last .1 .1 .1 .0) bounds in record {
       framed = keeping .ensures .framed;
       rowed = keeping .ensures .rowed;
-      placed = c .before .before .place-boundaries .ensures ∙ ap (written place (length bounds + 1)) (start .pre .1 .2) ∙ written-table place (length bounds + 1) edges 0;
+      placed = c .before .before .place-boundaries .ensures ∙ ap (written place (length bounds + 1)) (start .pre .1 .2) ∙ written-table place (length bounds + 1) mostEdges 0;
     }
 
 pub place-anchors-spec : {M : Type 1} → statement M

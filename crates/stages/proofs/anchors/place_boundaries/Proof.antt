@@ -5,7 +5,7 @@ use native.Mathlib.Omega.{arith}
 use lib.ListN.{length, getD, set}
 use Rattle.laws.proofs.Filling.{Filling, filling-none, filling-more, filling-all}
 use Rattle.stages.specs.Edges.{edge}
-use Rattle.stages.specs.Tables.{beyond}
+use Rattle.limits.specs.Common.{absent}
 use Rattle.stages.specs.Places.{countBelow, placeBefore}
 use Rattle.stages.proofs.Edges.{edge-in, edge-end, edge-ascends}
 use Rattle.stages.proofs.Places.{below-mono}
@@ -34,15 +34,15 @@ advance-requires c κs =
     let bounds = start .args .bounds .now in
     let l = c .before .before .loop in (
       start .pre .0 .0,
-      rw (edge-in bounds beyond (l .j) (omega arith)) at (l .inv .2),
-      omega (arith, below-mono (start .args .frames .now) (getD bounds (l .j) 0) beyond (omega (arith, c .shared-slice-known3 .given (l .j)))),
+      rw (edge-in bounds absent (l .j) (omega arith)) at (l .inv .2),
+      omega (arith, below-mono (start .args .frames .now) (getD bounds (l .j) 0) absent (omega (arith, c .shared-slice-known3 .given (l .j)))),
     )
 
 cast-places : tie.Need-cast-places Inv-loop μ-loop
 cast-places c =
     let start = c .before .before .before .before .before .before .before in
     let bound = getD (start .args .bounds .now) (c .before .before .before .loop .j) 0 in
-    omega (arith, c .advance .ensures, below-mono (start .args .frames .now) bound beyond (omega (arith, c .before .shared-slice-known3 .given (c .before .before .before .loop .j))))
+    omega (arith, c .advance .ensures, below-mono (start .args .frames .now) bound absent (omega (arith, c .before .shared-slice-known3 .given (c .before .before .before .loop .j))))
 
 mul-places : tie.Need-mul-places Inv-loop μ-loop
 mul-places c = omega arith
@@ -62,12 +62,12 @@ loop-again c =
     let frames = start .args .frames .now in
     let bounds = start .args .bounds .now in
     let l = c .before .before .before .loop in
-    let e = edge-in bounds beyond (l .j) (omega arith) in (
+    let e = edge-in bounds absent (l .j) (omega arith) in (
       filling-more (l .inv .0) (omega arith) (c .advance .ensures ∙ ap (countBelow frames) (sym e)),
       omega arith,
       rw (c .advance .ensures)
-          (below-mono frames (getD bounds (l .j) 0) (edge bounds beyond (l .j + 1))
-          (edge-ascends bounds beyond (start .pre .1 .1) (l .j) (omega arith) (omega (arith, c .before .shared-slice-known3 .given (l .j))))),
+          (below-mono frames (getD bounds (l .j) 0) (edge bounds absent (l .j + 1))
+          (edge-ascends bounds absent (start .pre .1 .1) (l .j) (omega arith) (omega (arith, c .before .shared-slice-known3 .given (l .j))))),
     )
 
 advance-requires-2 : tie.Need-advance-requires-2 Inv-loop μ-loop
@@ -76,7 +76,7 @@ advance-requires-2 c κs =
     let bounds = start .args .bounds .now in
     let l = c .before .loop in
     let e : l .j ≡ length bounds = omega arith in
-    (start .pre .0 .0, rw (e, edge-end bounds beyond) at (l .inv .2), start .pre .0 .1)
+    (start .pre .0 .0, rw (e, edge-end bounds absent) at (l .inv .2), start .pre .0 .1)
 
 cast-places-2 : tie.Need-cast-places-2 Inv-loop μ-loop
 cast-places-2 c = omega (arith, c .advance2 .ensures)
@@ -97,7 +97,7 @@ done c =
     let bounds = c .before .before .before .before .before .before .args .bounds .now in
     let l = c .before .before .loop in
     let e : l .j ≡ length bounds = omega arith in
-    filling-more (l .inv .0) (omega arith) (c .advance2 .ensures ∙ ap (countBelow frames) (sym (ap (λ (j : ℕ). edge bounds beyond j) e ∙ edge-end bounds beyond)))
+    filling-more (l .inv .0) (omega arith) (c .advance2 .ensures ∙ ap (countBelow frames) (sym (ap (λ (j : ℕ). edge bounds absent j) e ∙ edge-end bounds absent)))
 
 same-length : tie.Need-same-length Inv-loop μ-loop
 same-length c = done c .long

@@ -6,7 +6,7 @@ use lib.ListN.{length, length-replicate}
 use Rattle.laws.proofs.Listed.{written-table}
 use Rattle.laws.specs.Listed.{tableOf}
 use Rattle.paths.specs.Anchors.{keptIn}
-use Rattle.stages.specs.Room.{edges}
+use Rattle.limits.specs.Capacity.{mostEdges}
 use Rattle.stages.specs.Edges.{speechBefore}
 use Rattle.stages.proofs.Stage.{Placing, kept-orderly, speech-ascends, places-ascend, fills}
 use borrow.Author.Needs.{needs}
@@ -27,11 +27,18 @@ place-anchors-requires c κs =
     let pre = c .before .before .before .before .before .before .before .pre in
     ((pre .0, pre .1, omega (arith, pre .1 .short)), (refl, refl, refl))
 
+-- from each call to the one before it, and to the function's entry
+abbrev entry : tie.After-place-anchors → tie.Start
+entry c = c .before .before .before .before .before .before .before .before
+
+abbrev placed : tie.After-count-speech → tie.After-place-anchors
+placed c = c .before .before .before .before .before
+
 placing : (c : tie.After-place-anchors) →
-    let args = c .before .before .before .before .before .before .before .before .args in
+    let args = entry c .args in
     Placing (args .mask .now) (keptIn (args .mask .now) 0 (args .nuclei .now)) (c .place-anchors .last .1 .1 .1 .1 .0) (args .bounds .now) (c .place-anchors .last .1 .1 .1 .1 .1 .1 .0)
 placing c =
-    let start = c .before .before .before .before .before .before .before .before in record {
+    let start = entry c in record {
       orderly = kept-orderly (start .args .mask .now) 0 (start .args .nuclei .now) (start .pre .0 .framed) (start .pre .1);
       framed = c .place-anchors .ensures .framed;
       fit = start .pre .0;
@@ -44,15 +51,15 @@ slice-aggregate-count-speech c = search needs
 
 count-speech-requires : tie.Need-count-speech-requires
 count-speech-requires c κs =
-    let pre = c .before .before .before .before .before .before .before .before .before .before .before .before .pre in
-    (pre .0 .framed, omega (arith, pre .0 .listed .short, length-replicate {A = ℕ} edges 0), pre .0 .listed .ascending)
+    let pre = entry (c .before .before .before .before) .pre in
+    (pre .0 .framed, omega (arith, pre .0 .listed .short, length-replicate {A = ℕ} mostEdges 0), pre .0 .listed .ascending)
 
 counted : (c : tie.After-count-speech) →
-    let args = c .before .before .before .before .before .before .before .before .before .before .before .before .before .args in
-    c .count-speech .last .1 .1 .0 ≡ tableOf (speechBefore (args .mask .now) (args .bounds .now)) (length (args .bounds .now) + 1) edges 0
+    let args = entry (placed c) .args in
+    c .count-speech .last .1 .1 .0 ≡ tableOf (speechBefore (args .mask .now) (args .bounds .now)) (length (args .bounds .now) + 1) mostEdges 0
 counted c =
-    let args = c .before .before .before .before .before .before .before .before .before .before .before .before .before .args in
-    c .count-speech .ensures ∙ written-table (speechBefore (args .mask .now) (args .bounds .now)) (length (args .bounds .now) + 1) edges 0
+    let args = entry (placed c) .args in
+    c .count-speech .ensures ∙ written-table (speechBefore (args .mask .now) (args .bounds .now)) (length (args .bounds .now) + 1) mostEdges 0
 
 slice-aggregate-lay-costs : tie.Need-slice-aggregate-lay-costs
 slice-aggregate-lay-costs c = search needs
@@ -62,15 +69,18 @@ slice-aggregate-lay-costs-2 c = search needs
 
 lay-costs-requires : tie.Need-lay-costs-requires
 lay-costs-requires c κs =
-    let start = c .before .before .before .before .before .before .before .before .before .before .before .before .before .before .before .before .before in
-    let p = placing (c .before .before .before .before .before .before .before .before .before) in
-    ((speech-ascends p (counted (c .before .before .before .before)), places-ascend p), start .pre .0 .listed .short, start .pre .2)
+    let speech = c .before .before .before .before in
+    let start = entry (placed speech) in
+    let p = placing (placed speech) in
+    ((speech-ascends p (counted speech), places-ascend p), start .pre .0 .listed .short, start .pre .2)
 
 same-length : tie.Need-same-length
 same-length c = search needs
 
 returns : tie.Need-returns
-returns c = fills (placing (c .before .before .before .before .before .before .before .before .before .before .before .before)) (counted (c .before .before .before .before .before .before .before)) (c .before .before .lay-costs .ensures)
+returns c =
+    let speech = c .before .before .before .before .before .before .before in
+    fills (placing (placed speech)) (counted speech) (c .before .before .lay-costs .ensures)
 
 pub lay-filler-spec : {M : Type 1} → statement M
 lay-filler-spec =

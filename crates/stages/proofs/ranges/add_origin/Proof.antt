@@ -1,5 +1,5 @@
 -- What the two branches leave is what `withOrigin` chooses.
-use Prim.Native.Nat.{ℕ, _+_, _*_}
+use Prim.Native.Nat.{ℕ, _+_}
 use mathlib.Core.Bool.{cond}
 use mathlib.Core.List.{List}
 use mathlib.Core.Logic.{⊎-elim}
@@ -9,7 +9,7 @@ use borrow.Author.Tests.{eq-eqb, ne-eqb}
 use lib.Dec.{eqb}
 use lib.ListN.{length, getD, set, length-set}
 use Rattle.laws.proofs.Choices.{taken, passed}
-use Rattle.stages.specs.Room.{most}
+use Rattle.stages.specs.Lists.{middlesIn, highsIn}
 use Rattle.stages.specs.Ranges.{withOrigin}
 use borrow.Author.Needs.{needs}
 use Rattle.stages.proofs.ranges.add_origin.Statement.{statement}
@@ -53,10 +53,10 @@ mul-words-2 c = search needs
 
 lowest : (c : tie.Joined1) →
     let a = c .before .before .args in
-    c .if1 .words ≡ cond (eqb (getD (a .words .now) (2 * most + a .j) 0) 0) (set (a .words .now) (a .j) (a .i)) (a .words .now)
+    c .if1 .words ≡ cond (eqb (getD (a .words .now) (highsIn + a .j) 0) 0) (set (a .words .now) (a .j) (a .i)) (a .words .now)
 lowest c =
     let a = c .before .before .args in
-    let high = getD (a .words .now) (2 * most + a .j) 0 in
+    let high = getD (a .words .now) (highsIn + a .j) 0 in
     ⊎-elim
     (λ w. w .1 ∙ taken (a .words .now) (eq-eqb high 0 (w .0 .taken)))
     (λ w. w .1 ∙ passed (set (a .words .now) (a .j) (a .i)) (ne-eqb high 0 (w .0 .left)) refl)
@@ -67,12 +67,12 @@ lowest-long c = ⊎-elim (λ w. ap length (w .1) ∙ simp length-set) (λ w. ap 
 
 middle : (c : tie.Joined2) →
     let a = c .before .before .before .args in
-    c .if2 .words ≡ cond (a .anchored) (set (c .before .if1 .words) (most + a .j) (a .i + 1)) (c .before .if1 .words)
+    c .if2 .words ≡ cond (a .anchored) (set (c .before .if1 .words) (middlesIn + a .j) (a .i + 1)) (c .before .if1 .words)
 middle c =
     let a = c .before .before .before .args in
     ⊎-elim
     (λ w. w .1 ∙ taken (c .before .if1 .words) (w .0 .taken))
-    (λ w. w .1 ∙ passed (set (c .before .if1 .words) (most + a .j) (a .i + 1)) (w .0 .left) refl)
+    (λ w. w .1 ∙ passed (set (c .before .if1 .words) (middlesIn + a .j) (a .i + 1)) (w .0 .left) refl)
     (c .if2 .came)
 
 middle-long : (c : tie.Joined2) → length (c .if2 .words) ≡ length (c .before .before .before .args .words .now)
@@ -102,9 +102,9 @@ returns : tie.Need-returns
 unfolding withOrigin
 returns c =
     let a = c .before .before .before .args in
-    let finish : List ℕ → List ℕ = λ words. set words (2 * most + a .j) (a .i + 1) in
+    let finish : List ℕ → List ℕ = λ words. set words (highsIn + a .j) (a .i + 1) in
     ap finish (middle c)
-    ∙ ap (λ (words : List ℕ). finish (cond (a .anchored) (set words (most + a .j) (a .i + 1)) words)) (lowest (c .before))
+    ∙ ap (λ (words : List ℕ). finish (cond (a .anchored) (set words (middlesIn + a .j) (a .i + 1)) words)) (lowest (c .before))
 
 pub add-origin-spec : {M : Type 1} → statement M
 add-origin-spec =

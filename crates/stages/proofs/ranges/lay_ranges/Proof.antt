@@ -1,11 +1,11 @@
 -- The two loops: proofs/Origins.antt has their invariants and turns.
-use Prim.Native.Nat.{ℕ, _-_, _*_}
+use Prim.Native.Nat.{ℕ, _-_}
 use mathlib.Core.Logic.{⊎-elim}
 use mathlib.Core.Path.{sym, ap, _∙_}
 use native.Mathlib.Omega.{arith}
 use lib.ListN.{length, length-replicate}
 use Rattle.paths.proofs.Frames.{increasing-le}
-use Rattle.stages.specs.Room.{most}
+use Rattle.stages.specs.Lists.{originsLong}
 use Rattle.stages.specs.Ranges.{entryOf}
 use Rattle.stages.proofs.Origins.{Origins, Targets, origins-begin, origins-end, targets-begin, targets-end, target-fails, target-taken, none-short, none-past, one-unit}
 use Rattle.stages.proofs.ranges.lay_ranges.Statement.{statement}
@@ -125,7 +125,7 @@ loop-again c =
 same-length : tie.Need-same-length Inv-targets μ-targets Inv-loop μ-loop
 same-length c =
     c .before .loop .inv .long
-    ∙ sym (ap length (c .before .before .before .before .before .before .pre .3) ∙ length-replicate {A = ℕ} (3 * most) 0)
+    ∙ sym (ap length (c .before .before .before .before .before .before .pre .3) ∙ length-replicate {A = ℕ} originsLong 0)
 
 returns : tie.Need-returns Inv-targets μ-targets Inv-loop μ-loop
 returns c =

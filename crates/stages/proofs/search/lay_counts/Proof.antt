@@ -1,5 +1,5 @@
 -- The first counts are put back behind the tables that the second are made from.
-use Prim.Native.Nat.{ℕ, _+_, _*_, _≤_, _<_}
+use Prim.Native.Nat.{ℕ, _+_, _≤_}
 use mathlib.Core.List.{List, _++_}
 use mathlib.Core.Path.{_≡_, sym, ap, ap₂, _∙_}
 use native.Mathlib.Omega.{arith}
@@ -7,9 +7,9 @@ use lib.ListN.{length, take, drop, length-drop}
 use lib.Seq.{length-take-le}
 use borrow.Rule.Slice.PartMut.{putMid, same-len-mid}
 use Rattle.laws.specs.Listed.{listed, written}
-use Rattle.paths.specs.Ranges.{firstReached}
-use Rattle.stages.specs.Room.{most, counts}
-use Rattle.stages.specs.Tables.{tableAt}
+use Rattle.paths.specs.inner.Ranges.{firstReached}
+use Rattle.limits.specs.Capacity.{mostBoundaries, unitCounts}
+use Rattle.stages.specs.Lists.{lowsAt, middlesAt, highsAt, sinceStrictAt, sinceRelaxedAt, wordsLong, tableAt, countsAt}
 use Rattle.stages.specs.Ranges.{entryOf}
 use Rattle.stages.specs.Search.{reachedBy}
 use Rattle.stages.proofs.Counted.{counts-long, counts-same}
@@ -25,48 +25,48 @@ entry c = c .before .before .before .before .before .before .before .before .bef
 abbrev first : tie.After-copy2 → tie.After-copy
 first c = c .before .before .before .before .before .before .before .before .before .before .before
 
--- what is copied into a part of 17 entries, of a list that holds counts
-copied-counts : (words : List ℕ) (k n : ℕ) (part : List ℕ) {since out : List ℕ} → since ≡ reachedBy words k n → length part ≡ counts
-    → out ≡ written (entryOf since) (length since) part → out ≡ reachedBy words k n
-copied-counts words k n part {since} found long copied =
-    copied ∙ written-whole since part (long ∙ sym (ap length found ∙ counts-long words k n)) ∙ found
+-- what is copied into a part with an entry for each count, of a list that holds counts
+copied-counts : (words : List ℕ) (ends n : ℕ) (part : List ℕ) {since out : List ℕ} → since ≡ reachedBy words ends n → length part ≡ unitCounts
+    → out ≡ written (entryOf since) (length since) part → out ≡ reachedBy words ends n
+copied-counts words ends n part {since} found long copied =
+    copied ∙ written-whole since part (long ∙ sym (ap length found ∙ counts-long words ends n)) ∙ found
 
-part-long : (words : List ℕ) (at : ℕ) → length words ≡ 482 → at + 17 ≤ 482 → length (take 17 (drop at words)) ≡ 17
-part-long words at long h = length-take-le 17 (drop at words) (omega (arith, length-drop at words))
+part-long : (words : List ℕ) (at : ℕ) → length words ≡ wordsLong → at + unitCounts ≤ wordsLong → length (countsAt at words) ≡ unitCounts
+part-long words at long h = length-take-le unitCounts (drop at words) (omega (arith, length-drop at words))
 
-strict-laid : (c : tie.After-copy) → c .copy .last .1 .0 ≡ reachedBy (entry c .args .words .now) 2 (entry c .args .n)
+strict-laid : (c : tie.After-copy) → c .copy .last .1 .0 ≡ reachedBy (entry c .args .words .now) middlesAt (entry c .args .n)
 strict-laid c =
     let words = entry c .args .words .now in
-    copied-counts words 2 (entry c .args .n) (take 17 (drop 448 words)) (c .before .before .before .before .lay-since .ensures)
-    (part-long words 448 (entry c .pre .3) (omega arith)) (c .copy .ensures)
+    copied-counts words middlesAt (entry c .args .n) (countsAt sinceStrictAt words) (c .before .before .before .before .lay-since .ensures)
+    (part-long words sinceStrictAt (entry c .pre .3) (omega arith)) (c .copy .ensures)
 
 -- the words with the first counts
 abbrev once : tie.After-copy → List ℕ
-once c = putMid 448 17 (entry c .args .words .now) (c .copy .last .1 .0)
+once c = putMid sinceStrictAt unitCounts (entry c .args .words .now) (c .copy .last .1 .0)
 
-once-long : (c : tie.After-copy) → length (once c) ≡ 482
+once-long : (c : tie.After-copy) → length (once c) ≡ wordsLong
 once-long c =
     let start = entry c in
     let words = start .args .words .now in
-    same-len-mid 448 17 words (c .copy .last .1 .0)
-    (ap length (strict-laid c) ∙ counts-long words 2 (start .args .n) ∙ sym (part-long words 448 (start .pre .3) (omega arith)))
+    same-len-mid sinceStrictAt unitCounts words (c .copy .last .1 .0)
+    (ap length (strict-laid c) ∙ counts-long words middlesAt (start .args .n) ∙ sym (part-long words sinceStrictAt (start .pre .3) (omega arith)))
     ∙ start .pre .3
 
 -- tables before the counts stay
-once-before : (c : tie.After-copy) (k : ℕ) → k < 7 → tableAt k (once c) ≡ tableAt k (entry c .args .words .now)
-once-before c k h =
-    put-before 448 17 (k * most) most (entry c .args .words .now) (c .copy .last .1 .0) (omega arith) (omega (arith, entry c .pre .3))
+once-before : (c : tie.After-copy) (at : ℕ) → at + mostBoundaries ≤ sinceStrictAt → tableAt at (once c) ≡ tableAt at (entry c .args .words .now)
+once-before c at h =
+    put-before sinceStrictAt unitCounts at mostBoundaries (entry c .args .words .now) (c .copy .last .1 .0) h (omega (arith, entry c .pre .3))
 
-relaxed-laid : (c : tie.After-copy2) → c .copy2 .last .1 .0 ≡ reachedBy (entry (first c) .args .words .now) 3 (entry (first c) .args .n)
+relaxed-laid : (c : tie.After-copy2) → c .copy2 .last .1 .0 ≡ reachedBy (entry (first c) .args .words .now) highsAt (entry (first c) .args .n)
 relaxed-laid c =
     let start = entry (first c) in
     let words = once (first c) in
     let n = start .args .n in
-    let room = ap length (first c .before .before .before .before .lay-since .ensures) ∙ counts-long (start .args .words .now) 2 n in
-    let reached = firstReached (entryOf (tableAt 1 words)) (entryOf (tableAt 3 words)) n in
-    copied-counts words 3 n (take 17 (drop 465 words)) (c .before .before .before .before .lay-since2 .ensures ∙ ap (listed reached) room)
-    (part-long words 465 (once-long (first c)) (omega arith)) (c .copy2 .ensures)
-    ∙ counts-same words (start .args .words .now) 3 n (once-before (first c) 1 (omega arith)) (once-before (first c) 3 (omega arith))
+    let room = ap length (first c .before .before .before .before .lay-since .ensures) ∙ counts-long (start .args .words .now) middlesAt n in
+    let reached = firstReached (entryOf (tableAt lowsAt words)) (entryOf (tableAt highsAt words)) n in
+    copied-counts words highsAt n (countsAt sinceRelaxedAt words) (c .before .before .before .before .lay-since2 .ensures ∙ ap (listed reached) room)
+    (part-long words sinceRelaxedAt (once-long (first c)) (omega arith)) (c .copy2 .ensures)
+    ∙ counts-same words (start .args .words .now) highsAt n (once-before (first c) lowsAt (omega arith)) (once-before (first c) highsAt (omega arith))
 
 sub-lay-since : tie.Need-sub-lay-since
 sub-lay-since c = search needs
@@ -132,7 +132,7 @@ lay-since-requires-2 : tie.Need-lay-since-requires-2
 lay-since-requires-2 c κs =
     let copied = c .before .before .before .before .before .before in
     let start = entry copied in
-    (rw (once-before copied 1 (omega arith), once-before copied 3 (omega arith)) (start .pre .1), omega (arith, start .pre .2))
+    (rw (once-before copied lowsAt (omega arith), once-before copied highsAt (omega arith)) (start .pre .1), omega (arith, start .pre .2))
 
 slice-aggregate-copy-2 : tie.Need-slice-aggregate-copy-2
 slice-aggregate-copy-2 c = search needs
@@ -157,10 +157,10 @@ returns c =
     let second = c .before .before in
     let start = entry (first second) in
     let words = start .args .words .now in
-    last-two 448 17 17 words (first second .copy .last .1 .0) (second .copy2 .last .1 .0) (start .pre .3)
-    (ap length (strict-laid (first second)) ∙ counts-long words 2 (start .args .n))
-    (ap length (relaxed-laid second) ∙ counts-long words 3 (start .args .n))
-    ∙ ap₂ (λ (strict relaxed : List ℕ). take 448 words ++ strict ++ relaxed) (strict-laid (first second)) (relaxed-laid second)
+    last-two sinceStrictAt unitCounts unitCounts words (first second .copy .last .1 .0) (second .copy2 .last .1 .0) (start .pre .3)
+    (ap length (strict-laid (first second)) ∙ counts-long words middlesAt (start .args .n))
+    (ap length (relaxed-laid second) ∙ counts-long words highsAt (start .args .n))
+    ∙ ap₂ (λ (strict relaxed : List ℕ). take sinceStrictAt words ++ strict ++ relaxed) (strict-laid (first second)) (relaxed-laid second)
 
 pub lay-counts-spec : {M : Type 1} → statement M
 lay-counts-spec =

@@ -5,7 +5,7 @@ use mathlib.Core.Path.{_≡_, ap, _∙_}
 use native.Mathlib.Omega.{arith}
 use lib.ListN.{length, take, drop, replicate}
 use Rattle.laws.proofs.Listed.{written-at}
-use Rattle.stages.specs.Room.{most}
+use Rattle.limits.specs.Capacity.{mostBoundaries}
 use Rattle.stages.specs.Ranges.{entryOf}
 use Rattle.stages.proofs.Origins.{ranged-by}
 use Rattle.stages.proofs.Parts.{rest-length, rest-at}
@@ -64,11 +64,11 @@ returns c =
     let rest = take (length frames - 1) (drop 1 frames) in
     ranged-by
     (λ j h. ap (λ (l : List ℕ). entryOf l j) (first .pick .ensures)
-    ∙ written-at (λ i. entryOf frames (place i)) n (replicate most 0) 0 j h)
+    ∙ written-at (λ i. entryOf frames (place i)) n (replicate mostBoundaries 0) 0 j h)
     (λ j h.
     let next : 1 + place j ≡ place j + 1 = omega arith in
     ap (λ (l : List ℕ). entryOf l j) (second .pick2 .ensures)
-    ∙ written-at (λ i. entryOf rest (place i)) n (replicate most 0) 0 j h ∙ rest-at 1 frames (place j) 0 ∙ ap (entryOf frames) next)
+    ∙ written-at (λ i. entryOf rest (place i)) n (replicate mostBoundaries 0) 0 j h ∙ rest-at 1 frames (place j) 0 ∙ ap (entryOf frames) next)
     (c .before .before .lay-ranges .ensures)
 
 pub lay-origins-spec : {M : Type 1} → statement M

@@ -1,5 +1,5 @@
 -- Each part is laid behind those before it, and the words from there on are still 0.
-use Prim.Native.Nat.{ℕ, _+_, _*_, _<_}
+use Prim.Native.Nat.{ℕ, _+_, _≤_}
 use mathlib.Core.List.{List}
 use mathlib.Core.Path.{_≡_, sym, ap, _∙_}
 use native.Mathlib.Omega.{arith}
@@ -7,8 +7,8 @@ use lib.ListN.{length, take, drop, replicate}
 use borrow.Rule.Slice.PartMut.{putMid}
 use Rattle.laws.proofs.Listed.{written-table, length-table}
 use Rattle.laws.specs.Listed.{tableOf, written}
-use Rattle.stages.specs.Room.{most}
-use Rattle.stages.specs.Tables.{tableAt}
+use Rattle.limits.specs.Capacity.{mostBoundaries}
+use Rattle.stages.specs.Lists.{boundsAt, lowsAt, rowsAt, spanStartsAt, wordsLong, originsLong, spansLong, lowsIn, middlesIn, highsIn, tableAt}
 use Rattle.stages.specs.Ranges.{entryOf}
 use Rattle.stages.specs.Search.{entryBefore}
 use Rattle.stages.proofs.Counted.{counted-before, counted-strict, counted-relaxed, counted-whole}
@@ -34,92 +34,92 @@ ranging c = c .before .before .before .before
 abbrev start-of : tie.After-pick-before → tie.Start
 start-of c = entry (clearing (copying (ranging c)))
 
-cleared : (c : tie.After-clear-words) → Fresh 0 482 0 (c .clear-words .last .0)
+cleared : (c : tie.After-clear-words) → Fresh 0 wordsLong boundsAt (c .clear-words .last .0)
 cleared c = fresh-all (c .clear-words .ensures ∙ ap (λ (n : ℕ). replicate n 0) (entry c .pre .3))
 
 -- what is written over a part that is 0
-over-spare : (f : ℕ → ℕ) (n : ℕ) {part out : List ℕ} → part ≡ replicate most 0 → out ≡ written f n part → out ≡ tableOf f n most 0
-over-spare f n spare laid = laid ∙ ap (written f n) spare ∙ written-table f n most 0
+over-spare : (f : ℕ → ℕ) (n : ℕ) {part out : List ℕ} → part ≡ replicate mostBoundaries 0 → out ≡ written f n part → out ≡ tableOf f n mostBoundaries 0
+over-spare f n spare laid = laid ∙ ap (written f n) spare ∙ written-table f n mostBoundaries 0
 
 bounds-laid : (c : tie.After-copy) →
     let bounds = entry (clearing c) .args .bounds .now in
-    c .copy .last .1 .0 ≡ tableOf (entryOf bounds) (length bounds) most 0
+    c .copy .last .1 .0 ≡ tableOf (entryOf bounds) (length bounds) mostBoundaries 0
 bounds-laid c =
     let bounds = entry (clearing c) .args .bounds .now in
-    over-spare (entryOf bounds) (length bounds) (cleared (clearing c) .rest 0 most (omega arith) (omega arith)) (c .copy .ensures)
+    over-spare (entryOf bounds) (length bounds) (cleared (clearing c) .rest boundsAt mostBoundaries (omega arith) (omega arith)) (c .copy .ensures)
 
-bounds-long : (c : tie.After-copy) → length (c .copy .last .1 .0) ≡ most
+bounds-long : (c : tie.After-copy) → length (c .copy .last .1 .0) ≡ mostBoundaries
 bounds-long c =
     let start = entry (clearing c) in
     let bounds = start .args .bounds .now in
-    ap length (bounds-laid c) ∙ length-table (entryOf bounds) (length bounds) most 0 (start .pre .2 .short)
+    ap length (bounds-laid c) ∙ length-table (entryOf bounds) (length bounds) mostBoundaries 0 (start .pre .2 .short)
 
 abbrev with-bounds : tie.After-copy → List ℕ
-with-bounds c = putMid 0 64 (clearing c .clear-words .last .0) (c .copy .last .1 .0)
+with-bounds c = putMid boundsAt mostBoundaries (clearing c .clear-words .last .0) (c .copy .last .1 .0)
 
-fresh-origins : (c : tie.After-copy) → Fresh 0 482 64 (with-bounds c)
-fresh-origins c = fresh-next 64 (c .copy .last .1 .0) (cleared (clearing c)) (bounds-long c) (omega arith)
+fresh-origins : (c : tie.After-copy) → Fresh 0 wordsLong lowsAt (with-bounds c)
+fresh-origins c = fresh-next mostBoundaries (c .copy .last .1 .0) (cleared (clearing c)) (bounds-long c) (omega arith)
 
 abbrev with-origins : tie.After-lay-origins → List ℕ
-with-origins c = putMid 64 192 (with-bounds (copying c)) (c .lay-origins .last .1 .1 .1 .0)
+with-origins c = putMid lowsAt originsLong (with-bounds (copying c)) (c .lay-origins .last .1 .1 .1 .0)
 
-fresh-rows : (c : tie.After-lay-origins) → Fresh 0 482 256 (with-origins c)
-fresh-rows c = fresh-next 192 (c .lay-origins .last .1 .1 .1 .0) (fresh-origins (copying c)) (c .lay-origins .ensures .whole) (omega arith)
+fresh-rows : (c : tie.After-lay-origins) → Fresh 0 wordsLong rowsAt (with-origins c)
+fresh-rows c = fresh-next originsLong (c .lay-origins .last .1 .1 .1 .0) (fresh-origins (copying c)) (c .lay-origins .ensures .whole) (omega arith)
 
 abbrev row-of : tie.Start → ℕ → ℕ
 row-of c j = entryBefore (c .args .rows .now) (entryOf (c .args .places .now) j)
 
 rows-laid : (c : tie.After-pick-before) →
     let start = start-of c in
-    c .pick-before .last .1 .1 .1 .0 ≡ tableOf (row-of start) (length (start .args .bounds .now)) most 0
+    c .pick-before .last .1 .1 .1 .0 ≡ tableOf (row-of start) (length (start .args .bounds .now)) mostBoundaries 0
 rows-laid c =
     let start = start-of c in
-    over-spare (row-of start) (length (start .args .bounds .now)) (fresh-rows (ranging c) .rest 256 most (omega arith) (omega arith))
+    over-spare (row-of start) (length (start .args .bounds .now)) (fresh-rows (ranging c) .rest rowsAt mostBoundaries (omega arith) (omega arith))
     (c .pick-before .ensures)
 
-rows-long : (c : tie.After-pick-before) → length (c .pick-before .last .1 .1 .1 .0) ≡ most
+rows-long : (c : tie.After-pick-before) → length (c .pick-before .last .1 .1 .1 .0) ≡ mostBoundaries
 rows-long c =
     let start = start-of c in
-    ap length (rows-laid c) ∙ length-table (row-of start) (length (start .args .bounds .now)) most 0 (start .pre .2 .short)
+    ap length (rows-laid c) ∙ length-table (row-of start) (length (start .args .bounds .now)) mostBoundaries 0 (start .pre .2 .short)
 
 abbrev with-rows : tie.After-pick-before → List ℕ
-with-rows c = putMid 256 64 (with-origins (ranging c)) (c .pick-before .last .1 .1 .1 .0)
+with-rows c = putMid rowsAt mostBoundaries (with-origins (ranging c)) (c .pick-before .last .1 .1 .1 .0)
 
-fresh-spans : (c : tie.After-pick-before) → Fresh 0 482 320 (with-rows c)
-fresh-spans c = fresh-next 64 (c .pick-before .last .1 .1 .1 .0) (fresh-rows (ranging c)) (rows-long c) (omega arith)
+fresh-spans : (c : tie.After-pick-before) → Fresh 0 wordsLong spanStartsAt (with-rows c)
+fresh-spans c = fresh-next mostBoundaries (c .pick-before .last .1 .1 .1 .0) (fresh-rows (ranging c)) (rows-long c) (omega arith)
 
 -- What stands where, once the rows are laid.
 bounds-part : (c : tie.After-pick-before) →
     let bounds = start-of c .args .bounds .now in
-    tableAt 0 (with-rows c) ≡ tableOf (entryOf bounds) (length bounds) most 0
+    tableAt boundsAt (with-rows c) ≡ tableOf (entryOf bounds) (length bounds) mostBoundaries 0
 bounds-part c =
     let ranged = ranging c in
     let copied = copying ranged in
-    put-before 256 64 0 64 (with-origins ranged) (c .pick-before .last .1 .1 .1 .0) (omega arith) (omega (arith, fresh-rows ranged .long))
-    ∙ put-before 64 192 0 64 (with-bounds copied) (ranged .lay-origins .last .1 .1 .1 .0) (omega arith)
+    put-before rowsAt mostBoundaries boundsAt mostBoundaries (with-origins ranged) (c .pick-before .last .1 .1 .1 .0) (omega arith) (omega (arith, fresh-rows ranged .long))
+    ∙ put-before lowsAt originsLong boundsAt mostBoundaries (with-bounds copied) (ranged .lay-origins .last .1 .1 .1 .0) (omega arith)
     (omega (arith, fresh-origins copied .long))
-    ∙ put-here 0 64 (clearing copied .clear-words .last .0) (copied .copy .last .1 .0) (omega arith) (bounds-long copied)
+    ∙ put-here boundsAt mostBoundaries (clearing copied .clear-words .last .0) (copied .copy .last .1 .0) (omega arith) (bounds-long copied)
     ∙ bounds-laid copied
 
-origins-part : (c : tie.After-pick-before) → take 192 (drop 64 (with-rows c)) ≡ ranging c .lay-origins .last .1 .1 .1 .0
+origins-part : (c : tie.After-pick-before) → take originsLong (drop lowsAt (with-rows c)) ≡ ranging c .lay-origins .last .1 .1 .1 .0
 origins-part c =
     let ranged = ranging c in
     let copied = copying ranged in
     let laid = ranged .lay-origins in
-    put-before 256 64 64 192 (with-origins ranged) (c .pick-before .last .1 .1 .1 .0) (omega arith) (omega (arith, fresh-rows ranged .long))
-    ∙ put-here 64 192 (with-bounds copied) (laid .last .1 .1 .1 .0) (omega (arith, fresh-origins copied .long)) (laid .ensures .whole)
+    put-before rowsAt mostBoundaries lowsAt originsLong (with-origins ranged) (c .pick-before .last .1 .1 .1 .0) (omega arith) (omega (arith, fresh-rows ranged .long))
+    ∙ put-here lowsAt originsLong (with-bounds copied) (laid .last .1 .1 .1 .0) (omega (arith, fresh-origins copied .long)) (laid .ensures .whole)
 
-origins-table : (c : tie.After-pick-before) (k : ℕ) → k < 3
-    → take most (drop (most + k * most) (with-rows c)) ≡ tableAt k (ranging c .lay-origins .last .1 .1 .1 .0)
-origins-table c k h =
-    sym (part-part (k * most) most 64 192 (with-rows c) (omega arith) (omega (arith, fresh-spans c .long)))
-    ∙ ap (tableAt k) (origins-part c)
+origins-table : (c : tie.After-pick-before) (at : ℕ) → at + mostBoundaries ≤ originsLong
+    → tableAt (lowsAt + at) (with-rows c) ≡ tableAt at (ranging c .lay-origins .last .1 .1 .1 .0)
+origins-table c at h =
+    sym (part-part at mostBoundaries lowsAt originsLong (with-rows c) h (omega (arith, fresh-spans c .long)))
+    ∙ ap (tableAt at) (origins-part c)
 
 rows-part : (c : tie.After-pick-before) →
     let start = start-of c in
-    tableAt 4 (with-rows c) ≡ tableOf (row-of start) (length (start .args .bounds .now)) most 0
+    tableAt rowsAt (with-rows c) ≡ tableOf (row-of start) (length (start .args .bounds .now)) mostBoundaries 0
 rows-part c =
-    put-here 256 64 (with-origins (ranging c)) (c .pick-before .last .1 .1 .1 .0) (omega (arith, fresh-rows (ranging c) .long))
+    put-here rowsAt mostBoundaries (with-origins (ranging c)) (c .pick-before .last .1 .1 .1 .0) (omega (arith, fresh-rows (ranging c) .long))
     (rows-long c) ∙ rows-laid c
 
 clear-words-requires : tie.Need-clear-words-requires
@@ -150,7 +150,7 @@ lay-origins-requires : tie.Need-lay-origins-requires
 lay-origins-requires c κs =
     let copied = c .before .before .before in
     let pre = entry (clearing copied) .pre in
-    (pre .0, pre .2, fresh-origins copied .rest 64 192 (omega arith) (omega arith))
+    (pre .0, pre .2, fresh-origins copied .rest lowsAt originsLong (omega arith) (omega arith))
 
 sub-pick-before : tie.Need-sub-pick-before
 sub-pick-before c = search needs
@@ -169,8 +169,8 @@ lay-counts-requires c κs =
     let rows = c .before .before .before in
     let few = start-of rows .pre .2 .short in
     let ends = ranged-ends few (ranging rows .lay-origins .ensures) in (
-      rw (origins-table rows 0 (omega arith), origins-table rows 1 (omega arith)) (ends .0),
-      rw (origins-table rows 0 (omega arith), origins-table rows 2 (omega arith)) (ends .1),
+      rw (origins-table rows lowsIn (omega arith), origins-table rows middlesIn (omega arith)) (ends .0),
+      rw (origins-table rows lowsIn (omega arith), origins-table rows highsIn (omega arith)) (ends .1),
       few,
       fresh-spans rows .long,
     )
@@ -185,11 +185,11 @@ returns c =
     let w = with-rows rows in
     let long = fresh-spans rows .long in
     let is = c .before .before .lay-counts .ensures in record {
-      bounded = counted-before w n long is 0 most (omega arith) ∙ bounds-part rows;
-      ranged = rw (counted-before w n long is most (3 * most) (omega arith), origins-part rows) (ranging rows .lay-origins .ensures);
-      ranks = counted-before w n long is (4 * most) most (omega arith) ∙ rows-part rows;
-      spare = counted-before w n long is (5 * most) (2 * most) (omega arith)
-          ∙ fresh-spans rows .rest (5 * most) (2 * most) (omega arith) (omega arith);
+      bounded = counted-before w n long is boundsAt mostBoundaries (omega arith) ∙ bounds-part rows;
+      ranged = rw (counted-before w n long is lowsAt originsLong (omega arith), origins-part rows) (ranging rows .lay-origins .ensures);
+      ranks = counted-before w n long is rowsAt mostBoundaries (omega arith) ∙ rows-part rows;
+      spare = counted-before w n long is spanStartsAt spansLong (omega arith)
+          ∙ fresh-spans rows .rest spanStartsAt spansLong (omega arith) (omega arith);
       strict = counted-strict w n long is;
       relaxed = counted-relaxed w n long is;
       whole = counted-whole w n long is;

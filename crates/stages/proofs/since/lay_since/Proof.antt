@@ -9,8 +9,8 @@ use lib.Seq.{drop-length}
 use Rattle.laws.proofs.Filling.{Filling, filling-none, filling-more, filling-all}
 use Rattle.laws.proofs.Range.{first-le}
 use Rattle.laws.specs.Listed.{listed}
-use Rattle.laws.specs.Range.{firstFrom}
-use Rattle.paths.specs.Ranges.{arrivesFrom, firstReached}
+use Rattle.laws.specs.inner.Range.{firstFrom}
+use Rattle.paths.specs.inner.Ranges.{arrivesFrom, firstReached}
 use Rattle.stages.specs.Ranges.{entryOf}
 use Rattle.stages.proofs.since.lay_since.Statement.{statement}
 use Rattle.stages.proofs.since.lay_since.Tie as tie

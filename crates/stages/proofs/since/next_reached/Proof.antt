@@ -7,7 +7,7 @@ use borrow.Author.Tests.{le-ltb}
 use borrow.Author.Count.{below-more}
 use lib.Dec.{ltb}
 use Rattle.laws.proofs.Range.{first-passes, none-passes}
-use Rattle.paths.specs.Ranges.{arrivesFrom}
+use Rattle.paths.specs.inner.Ranges.{arrivesFrom}
 use Rattle.stages.specs.Ranges.{entryOf}
 use Rattle.stages.proofs.since.next_reached.Statement.{statement}
 use Rattle.stages.proofs.since.next_reached.Tie as tie

@@ -1,0 +1,3 @@
+-- What functions promise one another; no promise of an entry uses it.
+pub mod EntryFrom
+pub mod Placing

@@ -1,0 +1,2 @@
+-- What is shown of this layer's definitions.
+pub mod Editions
