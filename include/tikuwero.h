@@ -20,7 +20,7 @@
  *
  * No call allocates or keeps anything: there is no heap and no static variable, so that calls on
  * different memory may run at the same time. The archive needs memcpy and memset of the C library
- * and nothing else. tikuwero_decode takes 12,984 bytes of stack on x86-64, whatever the record
+ * and nothing else. tikuwero_decode takes up to 12,856 bytes of stack on x86-64, whatever the record
  * (measured, not proved).
  *
  * A frame is 10 ms. A mask has a byte for each frame, 1 where the frame has the mark and else 0; a

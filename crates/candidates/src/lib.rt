@@ -15,7 +15,8 @@ ghost use Rattle.record.specs.inner.Bounds.{CandidatesRead};
 ghost use Rattle.record.specs.Layout.{layoutOf};
 ghost use Rattle.record.specs.Conditions.{repeated, badUnits, badColumn};
 ghost use Rattle.laws.specs.Rules.{firstOf};
-ghost use Rattle.record.specs.Refusals.{answer, candidateRules};
+ghost use Rattle.record.specs.Refusals.{candidateRules};
+ghost use Rattle.record.specs.inner.Checks.{answer};
 
 fn repeated(bytes: &[u8], limits: Limits, at: Layout, i: usize) -> bool
     requires { ⌜ CandidatesRead limits (length (now bytes)) at ⌝ }

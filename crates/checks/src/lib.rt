@@ -24,7 +24,8 @@ ghost use Rattle.limits.specs.inner.Moderate.{Moderate};
 ghost use Rattle.record.specs.inner.Bounds.{Within, CandidatesRead};
 ghost use Rattle.record.specs.Layout.{layoutOf, limitsOf, limitsAt};
 ghost use Rattle.record.specs.Conditions.{shortDesk};
-ghost use Rattle.record.specs.Refusals.{trailerRules, contentRules, candidateRules, answer, checkedOf, checkedWith};
+ghost use Rattle.record.specs.Refusals.{trailerRules, contentRules, candidateRules};
+ghost use Rattle.record.specs.inner.Checks.{answer, checkedOf, checkedWith};
 
 // Refusals 1 to 4, by the length and the trailer; accepted so far with the layout.
 fn check_trailer(bytes: &[u8]) -> Checked

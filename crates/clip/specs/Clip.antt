@@ -2,7 +2,7 @@
 -- reports its path frames, then `clip_unanchored`." Clipping itself is the Rust's: "from the end of the previous syllable's final
 -- span to the start of the next nucleus-holding syllable's, or an empty span at the nearest point of that gap".
 use Prim.Native.Nat.{ℕ, min, max}
-use mathlib.Core.List.{List, [], _∷_, map}
+use mathlib.Core.List.{List, [], _∷_}
 use Rattle.frames.specs.declared.span.Span.{Span}
 
 -- A unit of a path: with an anchor, whose row has a span; or without one, by its path frames.
@@ -52,9 +52,3 @@ firstStart (unit ∷ later) = given unit .start
 unfoldable pub reported : List Placed → List Span
 unfolding reportAfter
 reported units = reportAfter (firstStart units) units
-
-abbrev pub startsOf : List Span → List ℕ
-startsOf spans = map (λ span. span .start) spans
-
-abbrev pub endsOf : List Span → List ℕ
-endsOf spans = map (λ span. span .end) spans

@@ -10,9 +10,6 @@ ghost use lib.ListN.{length};
 ghost use Rattle.clip.specs.Clip.{nextStart};
 ghost use Rattle.clip.specs.inner.Units.{placedRange, placedFrom, reportAt, Alike, Clipped};
 
-// Stands for the row of a unit without an anchor.
-pub const NO_ROW: u32 = ABSENT;
-
 // The nearest frame from `low` to `high`, which is not below `low`.
 fn nearest(low: u32, high: u32, frame: u32) -> u32
     ensures { λ r. ⌜ r ≡ min (max frame low) high ⌝ }
@@ -28,7 +25,7 @@ fn next_start(starts: &[u32], rows: &[u32], from: usize, otherwise: u32) -> u32
 {
     let mut at = from;
     while at < rows.len() {
-        if rows[at] != NO_ROW {
+        if rows[at] != ABSENT {
             return starts[at];
         }
         at += 1;
@@ -43,7 +40,7 @@ fn report(starts: &[u32], ends: &[u32], rows: &[u32], s: usize, low: u32) -> Spa
 {
     let from = starts[s];
     let to = ends[s];
-    if rows[s] != NO_ROW {
+    if rows[s] != ABSENT {
         return Span {
             start: from,
             end: to,

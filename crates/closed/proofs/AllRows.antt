@@ -60,7 +60,8 @@ module _ (asked : Asked) where
       (at : ℕ) → cellsFor asked ≤ at → Same best back best′ back′ at
   first-rest first q agrees at h = first q (agrees .starts) (agrees .gaps) .rest at (omega arith)
 
-  module _ {best₀ : List Float} {back₀ : List ℕ} {best : List Float} {back : List ℕ} {s : ℕ} (was : RowsTo best₀ back₀ best back s) (more : s < length (asked .columns)) where
+  module _ {best₀ : List Float} {back₀ : List ℕ} {best : List Float} {back : List ℕ} {s : ℕ} (was : RowsTo best₀ back₀ best back s)
+      (more : s < length (asked .columns)) where
     pub next-fits : s * t .size + t .size + t .size ≤ cellsFor asked
     next-fits = omega (arith, row-within (t .size) more)
 
@@ -74,11 +75,14 @@ module _ (asked : Asked) where
 
     module _ {best′ : List Float} {back′ : List ℕ} (b : length best′ ≡ length best) (m : length back′ ≡ length back) (score : ℕ → Float)
         (same : (j : ℕ) → j < t .size → score j ≡ scoresIn (asked .phrase) t (getD (asked .columns) s 0) j)
-        (before : ℕ) (next : FilledNext (rowWith t score (asked .phrase .costs) (asked .strictness)) best back best′ back′ (t .size) s before)
+        (before : ℕ)
+        (next : FilledNext (rowWith t score (asked .phrase .costs) (asked .strictness)) best back best′ back′ (t .size) s before)
         (reach : (q : Problem) → Agrees asked q → ReachedFrom (rows q (marks q) s) (t .size) before) where
       reached : (q : Problem) → Agrees asked q → NextRow best back best′ back′ (t .size) s (rows q (marks q) (suc s))
       unfolding rows
-      reached q agrees = next q (agrees .gaps) (units-read score same q agrees) (rows q (marks q) s) (was .filled q agrees s (omega arith)) (reach q agrees)
+      reached q agrees =
+          next q (agrees .gaps) (units-read score same q agrees) (rows q (marks q) s) (was .filled q agrees s (omega arith))
+          (reach q agrees)
 
       pub rows-more : (q : Problem) → Agrees asked q → RowsTo best₀ back₀ best′ back′ (s + 1)
       rows-more q₀ agrees₀ = record {
@@ -86,7 +90,8 @@ module _ (asked : Asked) where
         valued = b ∙ was .valued;
         marked = m ∙ was .marked;
         filled = λ q agrees r h j l. by-order r (suc s)
-            (λ below. same-holds (reached q agrees .before (rowAt (t .size) r j) (in-row r j below l)) (was .filled q agrees r (omega arith) j l))
+            (λ below. same-holds (reached q agrees .before (rowAt (t .size) r j) (in-row r j below l))
+            (was .filled q agrees r (omega arith) j l))
             (λ above. subst (λ (x : ℕ). HoldsAt best′ back′ (rowAt (t .size) x j) (rows q (marks q) x j)) (last-is r above h)
             (subst (λ (at : ℕ). HoldsAt best′ back′ at (rows q (marks q) (suc s) j)) (place-is j) (reached q agrees .row j l)));
         unused = λ at h l. same-holds (reached q₀ agrees₀ .after at (omega (arith, h))) (was .unused at (omega (arith, h)) l);

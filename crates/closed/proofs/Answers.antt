@@ -36,13 +36,15 @@ module _ (pass : Pass) (q : Problem) (k : ℕ) (path : Path) (reports : Reports 
 
 -- a pass that finds a path is the answer, whatever the later passes would give; one that finds none leaves it to them
 pub says-first :
-    (pass : Pass) (q : Problem) (c : Cell Route) (later : Demanded) (r : Searched) → Says (orElse pass q c none) r → isFound (r .answer) ≡ true →
+    (pass : Pass) (q : Problem) (c : Cell Route) (later : Demanded) (r : Searched) → Says (orElse pass q c none) r →
+    isFound (r .answer) ≡ true →
     Says (orElse pass q c later) r
 says-first pass q empty later r says e = absurd (let z : _≡_ {A = ℕ} 0 1 = cc (ap isFound (says .0)) in omega arith)
 says-first pass q (held route) later r says e = says
 
 pub leaves-later :
-    (pass : Pass) (q : Problem) (c : Cell Route) (later : Demanded) (r : Searched) → Says (orElse pass q c none) r → isFound (r .answer) ≡ false →
+    (pass : Pass) (q : Problem) (c : Cell Route) (later : Demanded) (r : Searched) → Says (orElse pass q c none) r →
+    isFound (r .answer) ≡ false →
     orElse pass q c later ≡ later
 leaves-later pass q empty later r says e = refl
 leaves-later pass q (held route) later r says e = absurd (let z : _≡_ {A = ℕ} 0 1 = cc (ap isFound (says .0)) in omega arith)

@@ -2,7 +2,7 @@
 use mathlib.Core.Bool.{Bool, true, false, not, cond}
 use mathlib.Core.List.{List, [], _∷_}
 use mathlib.Core.Path.{_≡_, refl, sym, ap, subst, _∙_}
-use Prim.Native.Nat.{ℕ, suc, _+_, _-_, _≤_, _<_}
+use Prim.Native.Nat.{ℕ, _+_, _-_, _≤_, _<_}
 use native.Mathlib.Omega.{arith}
 use lib.Dec.{T, leb, ltb, ltb→lt, nltb→le}
 use lib.Ieee.{Float, binary64, add}
@@ -10,53 +10,34 @@ use lib.Ieee.Fits.{and-r}
 use lib.ListN.{length, getD}
 use borrow.Author.Tests.{lt-ltb, le-ltb}
 use Rattle.laws.proofs.Tests.{by-test}
+use Rattle.laws.specs.theory.Each.{Each, each-none, each-more}
 use Rattle.phrase.specs.Phrase.{Phrase, Stage}
 use Rattle.paths.specs.declared.passes.Strictness.{Strictness}
 use Rattle.paths.specs.declared.passes.Strictness.the-variants.{Strict, Relaxed}
-use Rattle.paths.specs.Frames.{Increasing, withinMask}
-use Rattle.paths.specs.Anchors.{Anchor, select, numbered, keptIn, kept, heldIn, rowOr}
+use Rattle.paths.specs.inner.Order.{Increasing}
+use Rattle.paths.specs.Anchors.{Anchor, kept, heldIn, rowOr}
 use Rattle.paths.specs.inner.Ranges.{goesTo, lowOrigin, originsEnd, inRange, Origins, firstReached, before, lastOf, rowBefore}
 use Rattle.paths.specs.StageProblem.{scoreOf, unitValueOf, boundary, problemOf}
+use Rattle.paths.proofs.Anchors.{InRows, each-select, kept-rows}
 use Rattle.paths.proofs.Rising.{Rising, kept-rising}
 use Rattle.paths.proofs.Ranges.{origins, held-in-range, any-relaxed, one-in-range, strict-inside, fits-in-range}
 use Rattle.paths.proofs.Reached.{reached-same}
 use Rattle.limits.specs.Capacity.{mostBoundaries}
 use Rattle.stages.specs.Tables.{StageTables, Tabled}
-use Rattle.closed.specs.Searched.{lowIn, endIn, Readable}
+use Rattle.closed.specs.Searched.{lowIn, endIn, ReadableTables}
 use Rattle.closed.specs.Asked.{Agrees}
 
--- ---- what holds of every anchor of a list
+-- ---- the rows of anchors
 
-data Every (P : Anchor → Type 0) : List Anchor → Type 0 where
-  none : Every P []
-  more : {anchor : Anchor} {anchors : List Anchor} → P anchor → Every P anchors → Every P (anchor ∷ anchors)
+row-below : {first most : ℕ} {anchors : List Anchor} → 0 < most → Each (InRows first most) anchors → rowOr 0 anchors < most
+row-below h each-none = h
+row-below h (each-more (low, high) rest) = high
 
-every-select : {P : Anchor → Type 0} (test : Anchor → Bool) {anchors : List Anchor} → Every P anchors → Every P (select test anchors)
-unfolding select
-every-select test none = none
-every-select {P = P} test (more {anchor = anchor} {anchors = anchors} h rest) = go (test anchor) (every-select test rest)
-  where
-    go : (b : Bool) → Every P (select test anchors) → Every P (cond b (anchor ∷ select test anchors) (select test anchors))
-    go true r = more h r
-    go false r = r
-
--- rows are places: below the first row and the number of anchors
-numbered-rows : (row : ℕ) (frames : List ℕ) (most : ℕ) → row + length frames ≤ most → Every (λ anchor. anchor .row < most) (numbered row frames)
-unfolding numbered
-numbered-rows row [] most h = none
-numbered-rows row (frame ∷ frames) most h =
-    let here : row < most = omega arith in
-    more here (numbered-rows (suc row) frames most (omega arith))
-
-row-below : {most : ℕ} {anchors : List Anchor} → 0 < most → Every (λ anchor. anchor .row < most) anchors → rowOr 0 anchors < most
-row-below h none = h
-row-below h (more r rest) = r
-
-every-last : {P : Anchor → Type 0} {anchors : List Anchor} → Every P anchors → Every P (lastOf anchors)
+each-last : {P : Anchor → Type 0} {anchors : List Anchor} → Each P anchors → Each P (lastOf anchors)
 unfolding lastOf
-every-last none = none
-every-last (more h none) = more h none
-every-last (more h (more k rest)) = every-last (more k rest)
+each-last each-none = each-none
+each-last (each-more h each-none) = each-more h each-none
+each-last (each-more h (each-more k rest)) = each-last (each-more k rest)
 
 module _ (phrase : Phrase) (stage : Stage) (t : StageTables) (tabled : Tabled phrase stage t) (anchorsUp : Increasing (stage .anchors))
     (boundsUp : Increasing (stage .boundaries)) (few : length (stage .boundaries) ≤ mostBoundaries) where
@@ -67,7 +48,8 @@ module _ (phrase : Phrase) (stage : Stage) (t : StageTables) (tabled : Tabled ph
   counted i h = omega (arith, tabled .sized)
 
   -- the origins of a strictness, as the tables have them
-  ranges : (strictness : Strictness) → Origins (λ i j. goesTo strictness (kept phrase stage) (stage .boundaries) j i) (t .size) (lowIn t) (endIn t strictness)
+  ranges : (strictness : Strictness)
+      → Origins (λ i j. goesTo strictness (kept phrase stage) (stage .boundaries) j i) (t .size) (lowIn t) (endIn t strictness)
   ranges strictness =
       let all = origins (kept phrase stage) (stage .boundaries) boundsUp strictness in
       record {
@@ -80,7 +62,8 @@ module _ (phrase : Phrase) (stage : Stage) (t : StageTables) (tabled : Tabled ph
       (strictness : Strictness) (i j : ℕ) → j < t .size → T (inRange (lowIn t j) (endIn t strictness j) i) →
       (i < j) × T (goesTo strictness (kept phrase stage) (stage .boundaries) j i)
   admitted strictness i j h inside =
-      let below : i < endIn t strictness j = ltb→lt i (endIn t strictness j) (and-r (leb (lowIn t j) i) (ltb i (endIn t strictness j)) inside) in
+      let below : i < endIn t strictness j =
+      ltb→lt i (endIn t strictness j) (and-r (leb (lowIn t j) i) (ltb i (endIn t strictness j)) inside) in
       let before : i < j = omega (arith, ranges strictness .earlier j h) in
       (before, subst T (sym (ranges strictness .ranged i j before h)) inside)
 
@@ -91,7 +74,10 @@ module _ (phrase : Phrase) (stage : Stage) (t : StageTables) (tabled : Tabled ph
       ≡ cond (ltb i (getD (t .middle) j 0)) (phrase .score (getD (t .row) j 0) column) (phrase .costs .«unvoiced»)
   unfolding scoreOf
   scored strictness column i j h k goes = by-test (ltb i (getD (t .middle) j 0))
-      (λ below. one-score (heldIn (kept phrase stage) (boundary stage i) (boundary stage j)) (one-in-range (kept phrase stage) (stage .boundaries) rising boundsUp i j h (counted j k) relaxed (omega (arith, tabled .ends Strict j k, ltb→lt i (getD (t .middle) j 0) below))) ∙ ap (λ (row : ℕ). phrase .score row column) (ap (rowOr 0) (held-as true (passes below)) ∙ sym (tabled .rows j k))
+      (λ below. one-score (heldIn (kept phrase stage) (boundary stage i) (boundary stage j))
+      (one-in-range (kept phrase stage) (stage .boundaries) rising boundsUp i j h (counted j k) relaxed
+      (omega (arith, tabled .ends Strict j k, ltb→lt i (getD (t .middle) j 0) below)))
+      ∙ ap (λ (row : ℕ). phrase .score row column) (ap (rowOr 0) (held-as true (passes below)) ∙ sym (tabled .rows j k))
       ∙ sym (ap choose (passes below)))
       (λ above. ap (scoreOf phrase column) (held-as false (fails above)) ∙ sym (ap choose (fails above)))
     where
@@ -109,17 +95,20 @@ module _ (phrase : Phrase) (stage : Stage) (t : StageTables) (tabled : Tabled ph
 
       held-as :
           (b : Bool) → ltb i (getD (t .middle) j 0) ≡ b →
-          heldIn (kept phrase stage) (boundary stage i) (boundary stage j) ≡ cond b (lastOf (before (kept phrase stage) (boundary stage j))) []
+          heldIn (kept phrase stage) (boundary stage i) (boundary stage j)
+          ≡ cond b (lastOf (before (kept phrase stage) (boundary stage j))) []
       held-as b e =
           held-in-range (kept phrase stage) (stage .boundaries) rising boundsUp i j h (counted j k) relaxed
-          ∙ ap (λ (c : Bool). cond c (lastOf (before (kept phrase stage) (boundary stage j))) []) (ap (ltb i) (sym (tabled .ends Strict j k)) ∙ e)
+          ∙ ap (λ (c : Bool). cond c (lastOf (before (kept phrase stage) (boundary stage j))) [])
+          (ap (ltb i) (sym (tabled .ends Strict j k)) ∙ e)
 
       one-score : (l : List Anchor) → length l ≡ 1 → scoreOf phrase column l ≡ phrase .score (rowOr 0 l) column
       one-score [] e = absurd (omega arith)
       one-score (anchor ∷ l) e = refl
 
   pub agrees : (strictness : Strictness) (columns : List ℕ) →
-      Agrees (record { phrase = phrase; columns = columns; strictness = strictness; tables = t }) (problemOf phrase stage strictness columns)
+      Agrees (record { phrase = phrase; columns = columns; strictness = strictness; tables = t })
+      (problemOf phrase stage strictness columns)
   unfolding unitValueOf
   agrees strictness columns = record {
     starts = tabled .started;
@@ -133,32 +122,37 @@ module _ (phrase : Phrase) (stage : Stage) (t : StageTables) (tabled : Tabled ph
           let to : getD (t .bounds) j 0 ≡ boundary stage j = tabled .bounded j k in
           let fits = fits-in-range (kept phrase stage) (stage .boundaries) i j strictness ok in
           rw (from, to, tabled .durations (boundary stage j - boundary stage i) (fits .0) (fits .1))
-          (ap (λ (x : Float). add binary64 x (stage .duration (boundary stage j - boundary stage i))) (scored strictness (getD columns s 0) i j l k ok));
+          (ap (λ (x : Float). add binary64 x (stage .duration (boundary stage j - boundary stage i)))
+          (scored strictness (getD columns s 0) i j l k ok));
     };
   }
 
-  rows-below : (scoreRows : ℕ) → stage .firstRow + length (stage .anchors) ≤ scoreRows → Every (λ anchor. anchor .row < scoreRows) (kept phrase stage)
-  unfolding keptIn
-  rows-below scoreRows most =
-      every-select (λ anchor. withinMask (phrase .mask) (anchor .frame)) (numbered-rows (stage .firstRow) (stage .anchors) scoreRows most)
-
-  row-before : (scoreRows : ℕ) → 0 < scoreRows → stage .firstRow + length (stage .anchors) ≤ scoreRows → (to : ℕ) → rowBefore 0 (kept phrase stage) to < scoreRows
+  row-before : (scoreRows : ℕ) → 0 < scoreRows → stage .firstRow + length (stage .anchors) ≤ scoreRows → (to : ℕ)
+      → rowBefore 0 (kept phrase stage) to < scoreRows
   unfolding before
-  row-before scoreRows some most to = row-below some (every-last (every-select (λ anchor. ltb (anchor .frame) to) (rows-below scoreRows most)))
+  row-before scoreRows some most to =
+      row-below some
+      (each-last (each-select (λ anchor. ltb (anchor .frame) to)
+      (kept-rows (phrase .mask) (stage .firstRow) scoreRows (stage .anchors) most)))
 
   pub readable :
-      (strictness : Strictness) (scoreRows : ℕ) → 0 < scoreRows → stage .firstRow + length (stage .anchors) ≤ scoreRows → Readable t strictness scoreRows
+      (strictness : Strictness) (scoreRows : ℕ) → 0 < scoreRows → stage .firstRow + length (stage .anchors) ≤ scoreRows
+      → ReadableTables t strictness scoreRows
   readable strictness scoreRows some most = record {
     few = omega (arith, tabled .sized);
     earlier = ranges strictness .earlier;
-    inside = λ j h. rw (tabled .ends Strict j h, tabled .ends strictness j h) (strict-inside (kept phrase stage) (stage .boundaries) strictness j);
+    inside =
+        λ j h. rw (tabled .ends Strict j h, tabled .ends strictness j h)
+        (strict-inside (kept phrase stage) (stage .boundaries) strictness j);
     fits = λ i j h inside.
         let goes = admitted strictness i j h inside in
         let fits = fits-in-range (kept phrase stage) (stage .boundaries) i j strictness (goes .1) in
         rw (tabled .bounded i (omega arith), tabled .bounded j h) (omega (arith, fits .0), omega (arith, fits .1));
     rows = λ i h. rw (tabled .rows i h) (row-before scoreRows some most (boundary stage i));
     reached = λ s h. tabled .sinces strictness s h
-        ∙ reached-same (lowOrigin (kept phrase stage) (stage .boundaries)) (originsEnd strictness (kept phrase stage) (stage .boundaries)) (lowIn t) (endIn t strictness) (length (stage .boundaries))
-        (λ j k. sym (tabled .lows j (omega (arith, tabled .sized)))) (λ j k. sym (tabled .ends strictness j (omega (arith, tabled .sized)))) s
+        ∙ reached-same (lowOrigin (kept phrase stage) (stage .boundaries)) (originsEnd strictness (kept phrase stage) (stage .boundaries))
+        (lowIn t) (endIn t strictness) (length (stage .boundaries))
+        (λ j k. sym (tabled .lows j (omega (arith, tabled .sized))))
+        (λ j k. sym (tabled .ends strictness j (omega (arith, tabled .sized)))) s
         ∙ ap (λ (n : ℕ). firstReached (lowIn t) (endIn t strictness) n s) (sym (tabled .sized));
   }

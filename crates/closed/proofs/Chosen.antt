@@ -18,7 +18,6 @@ use Rattle.rows.specs.declared.trace.Units.{Units}
 use Rattle.rows.specs.Rows.{Holds, unreached, reached}
 use Rattle.rows.specs.Ends.{endedBy, StopsOf, EndOf}
 use Rattle.rows.specs.Traced.{markIn, Traceable, UnitsAre}
-use Rattle.closed.specs.declared.path.Path.{Path}
 use Rattle.closed.specs.declared.path.Found.the-variants.{Sum, NoPath}
 use Rattle.closed.specs.Reported.{Reports, AllRows, LastReached}
 use Rattle.closed.proofs.Parts.{part, part-holds}
@@ -67,7 +66,8 @@ unfolding markAt
 holds-mark unreached = refl
 holds-mark (reached h) = refl
 
-module _ (q : Problem) (k n : ℕ) (stop : List Float) (best : List Float) (back : List ℕ) (stops : StopsOf q stop n) (all : AllRows q best back n k) where
+module _ (q : Problem) (k n : ℕ) (stop : List Float) (best : List Float) (back : List ℕ) (stops : StopsOf q stop n)
+    (all : AllRows q best back n k) where
   -- the marks lead back to the units of the path chosen
   trace-chosen : (p : Route) → chosenPath q k ≡ held p → (endOf p < n) × Traces (markIn back n) k (endOf p) (unitsOf p)
   unfolding chosenPath
@@ -76,7 +76,8 @@ module _ (q : Problem) (k n : ℕ) (stop : List Float) (best : List Float) (back
       let is : at .place ≡ endOf p = sym (kept-ends p (rows-kept q k (at .place) p (at .here))) in (
         omega (arith, at .below, stops .sized, is),
         subst (λ (j : ℕ). Traces (markIn back n) k j (unitsOf p)) is
-            (marks-trace q k (markIn back n) (λ s j h l. holds-mark (all s h j (omega (arith, stops .sized)))) k (at .place) p (le-refl k) (at .below) (at .here)),
+            (marks-trace q k (markIn back n) (λ s j h l. holds-mark (all s h j (omega (arith, stops .sized)))) k (at .place) p (le-refl k)
+            (at .below) (at .here)),
       )
 
   -- the end over the last row, which reaches some boundary, is that of the path chosen
@@ -90,7 +91,8 @@ module _ (q : Problem) (k n : ℕ) (stop : List Float) (best : List Float) (back
     unfolding carry
     chosen-there = go (chosenPath q k) refl end-is
       where
-        go : (c : Cell Route) → chosenPath q k ≡ c → held (endedBy end) ≡ carry (ended q) c → (p : Route) × (chosenPath q k ≡ held p) × (ended q p ≡ endedBy end)
+        go : (c : Cell Route) → chosenPath q k ≡ c → held (endedBy end) ≡ carry (ended q) c → (p : Route) × (chosenPath q k ≡ held p)
+            × (ended q p ≡ endedBy end)
         go empty chosen e = absurd (let z : _≡_ {A = ℕ} 0 1 = cc in omega arith)
         go (held p) chosen e = (p, chosen, sym (held-same e))
 
@@ -99,8 +101,10 @@ module _ (q : Problem) (k n : ℕ) (stop : List Float) (best : List Float) (back
     traced =
         let there = chosen-there in
         let trace = trace-chosen (there .0) (there .1) in
-        let is : endOf (there .0) ≡ end .boundary = ap (λ (x : Ended). x .at) (there .2) in
-        (subst (λ (j : ℕ). j < n) is (trace .0), (unitsOf (there .0), subst (λ (j : ℕ). Traces (markIn back n) k j (unitsOf (there .0))) is (trace .1)))
+        let is : endOf (there .0) ≡ end .boundary = ap (λ (x : Ended). x .at) (there .2) in (
+          subst (λ (j : ℕ). j < n) is (trace .0),
+          (unitsOf (there .0), subst (λ (j : ℕ). Traces (markIn back n) k j (unitsOf (there .0))) is (trace .1)),
+        )
 
     pub reports-chosen :
         (units : Units) → ((found : List Bounds) → Traces (markIn back n) k (end .boundary) found → UnitsAre units found) →
@@ -113,10 +117,12 @@ module _ (q : Problem) (k n : ℕ) (stop : List Float) (best : List Float) (back
         record {
           found = rw (there .1) (ap held summed);
           units = rw (there .1)
-              (led (unitsOf (there .0)) (subst (λ (j : ℕ). Traces (markIn back n) k j (unitsOf (there .0))) is (trace-chosen (there .0) (there .1) .1)));
+              (led (unitsOf (there .0))
+              (subst (λ (j : ℕ). Traces (markIn back n) k j (unitsOf (there .0))) is (trace-chosen (there .0) (there .1) .1)));
         }
 
 -- where the last row reaches no boundary there is no path
-pub reports-none : {q : Problem} {k : ℕ} (units : Units) → chosenPath q k ≡ empty → UnitsAre units [] → Reports q k (record { found = NoPath; units = units })
+pub reports-none : {q : Problem} {k : ℕ} (units : Units) → chosenPath q k ≡ empty → UnitsAre units []
+    → Reports q k (record { found = NoPath; units = units })
 unfolding carry
 reports-none units none are = record { found = rw none; units = rw none are }

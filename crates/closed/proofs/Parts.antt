@@ -61,7 +61,8 @@ module _ (best : List Float) (back : List ℕ) (a : ℕ) where
     pub put-same-below : (at : ℕ) → at < a → Same best back (put a best best′) (put a back back′) at
     put-same-below at h = record { value = put-below a best b best′ at nan h; mark = put-below a back m back′ at 0 h }
 
-    pub put-same : (at : ℕ) → a ≤ at → Same (part a best) (part a back) best′ back′ (at - a) → Same best back (put a best best′) (put a back back′) at
+    pub put-same : (at : ℕ) → a ≤ at → Same (part a best) (part a back) best′ back′ (at - a)
+        → Same best back (put a best best′) (put a back back′) at
     put-same at h same =
         let is : a + (at - a) ≡ at = omega arith in
         subst (Same best back (put a best best′) (put a back back′)) is

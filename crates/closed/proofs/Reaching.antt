@@ -1,6 +1,5 @@
 -- What each count reaches first, from the tables of a stage. Assumes nothing.
 use mathlib.Core.Bool.{Bool, true}
-use mathlib.Core.List.{List}
 use mathlib.Core.Path.{_≡_, sym, ap, subst, _∙_}
 use Prim.Native.Nat.{ℕ, _+_, _≤_, _<_}
 use native.Mathlib.Omega.{arith}
@@ -20,10 +19,10 @@ use Rattle.paths.proofs.Reached.{rows-reach, none-chosen}
 use Rattle.limits.specs.Capacity.{unitCounts}
 use Rattle.stages.specs.Tables.{StageTables, sinceIn}
 use Rattle.rows.specs.Units.{ReachedFrom, Begins}
-use Rattle.closed.specs.Searched.{rowWith, lowIn, endIn, Readable}
+use Rattle.closed.specs.Searched.{rowWith, lowIn, endIn, ReadableTables}
 use Rattle.closed.specs.Asked.{Asked, Agrees}
 
-module _ (asked : Asked) {scoreRows : ℕ} (readable : Readable (asked .tables) (asked .strictness) scoreRows) where
+module _ (asked : Asked) {scoreRows : ℕ} (readable : ReadableTables (asked .tables) (asked .strictness) scoreRows) where
   abbrev t : StageTables
   t = asked .tables
 
@@ -47,7 +46,8 @@ module _ (asked : Asked) {scoreRows : ℕ} (readable : Readable (asked .tables) 
       ∙ ap (λ (m : ℕ). leb m j) (ap (λ (n : ℕ). firstReached low end n s) sized ∙ sym (readable .reached s h) ∙ sym e)
 
   pub none-there :
-      (q : Problem) → Agrees asked q → (k : ℕ) → k < unitCounts → t .size ≤ getD (sinceIn t (asked .strictness)) k 0 → chosenPath q k ≡ empty
+      (q : Problem) → Agrees asked q → (k : ℕ) → k < unitCounts → t .size ≤ getD (sinceIn t (asked .strictness)) k 0
+      → chosenPath q k ≡ empty
   none-there q agrees k h all =
       let sized = agrees .stops .sized in
       none-chosen q (origins q agrees) k
@@ -55,7 +55,8 @@ module _ (asked : Asked) {scoreRows : ℕ} (readable : Readable (asked .tables) 
 
   -- the first boundary of the row after that of s units
   pub begins :
-      (scores : ℕ → Float) (costs : Costs) (s : ℕ) → s + 1 < unitCounts → (before since : ℕ) → before ≡ getD (sinceIn t (asked .strictness)) s 0 →
+      (scores : ℕ → Float) (costs : Costs) (s : ℕ) → s + 1 < unitCounts → (before since : ℕ) →
+      before ≡ getD (sinceIn t (asked .strictness)) s 0 →
       since ≡ getD (sinceIn t (asked .strictness)) (s + 1) 0 → Begins (rowWith t scores costs (asked .strictness)) (t .size) before since
   unfolding firstReached
   begins scores costs s h before since e f = record {

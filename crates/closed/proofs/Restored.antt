@@ -3,7 +3,7 @@ use mathlib.Core.List.{List, _++_}
 use mathlib.Core.Path.{_≡_, refl, sym, ap, _∙_}
 use Prim.Native.Nat.{ℕ, _+_, _-_, _≤_, _<_}
 use native.Mathlib.Omega.{arith}
-use lib.Ieee.{Float, binary64, nan, ofBits}
+use lib.Ieee.{Float, binary64, ofBits}
 use lib.ListN.{length, getD, drop, replicate, length-append, length-drop, length-replicate, getD-replicate, List·getD-append}
 use lib.Seq.{ext-getD, getD-drop, getD-append-add}
 use Rattle.laws.proofs.Numbers.{by-order}
@@ -12,7 +12,8 @@ use Rattle.rows.specs.Rows.{Holds, unreached}
 use Rattle.closed.specs.Asked.{Unused}
 
 pub restored :
-    {A : Type 0} (cells : ℕ) (l left : List A) (z d : A) → cells ≤ length l → length left ≡ length l → ((i : ℕ) → i < cells → getD l i d ≡ z) →
+    {A : Type 0} (cells : ℕ) (l left : List A) (z d : A) → cells ≤ length l → length left ≡ length l →
+    ((i : ℕ) → i < cells → getD l i d ≡ z) →
     ((i : ℕ) → cells ≤ i → getD left i d ≡ getD l i d) → replicate cells z ++ drop cells left ≡ l
 restored {A} cells l left z d h e zero rest = ext-getD d (replicate cells z ++ drop cells left) l size (λ i k. at i)
   where
@@ -41,22 +42,8 @@ zero-value unreached = refl
 pub zero-mark : {value : Float} {mark : ℕ} → Holds value mark empty → mark ≡ 0
 zero-mark unreached = refl
 
--- areas that were cleared are unused, whatever they held
-pub cleared :
-    (cells : ℕ) (best : List Float) (back : List ℕ) → Unused (replicate cells (ofBits binary64 0) ++ best) (replicate cells 0 ++ back) cells
-cleared cells best back = record {
-  values = omega (arith, length-append (replicate cells (ofBits binary64 0)) best, length-replicate cells (ofBits binary64 0));
-  marks = omega (arith, length-append (replicate cells 0) back, length-replicate {A = ℕ} cells 0);
-  zero = λ j h.
-      rw (
-        List·getD-append (replicate cells (ofBits binary64 0)) best nan j (omega (arith, length-replicate cells (ofBits binary64 0))),
-        List·getD-append (replicate cells 0) back 0 j (omega (arith, length-replicate {A = ℕ} cells 0)),
-        getD-replicate cells j (ofBits binary64 0) nan h,
-        getD-replicate {A = ℕ} cells j 0 0 h,
-      ) unreached;
-}
-
 -- areas that are as they came are unused still
 pub still :
-    {best best′ : List Float} {back back′ : List ℕ} {cells : ℕ} → best′ ≡ best → back′ ≡ back → Unused best back cells → Unused best′ back′ cells
+    {best best′ : List Float} {back back′ : List ℕ} {cells : ℕ} → best′ ≡ best → back′ ≡ back → Unused best back cells
+    → Unused best′ back′ cells
 still e f unused = rw (e, f) unused

@@ -13,7 +13,7 @@ use Rattle.phrase.specs.declared.costs.Costs.{Costs}
 use Rattle.paths.specs.declared.passes.Strictness.{Strictness}
 use Rattle.paths.specs.declared.passes.Pass.{Pass}
 use Rattle.paths.specs.declared.passes.Pass.the-variants.{NucleiStrict, CountStrict, CountRelaxed, NucleiRelaxed}
-use Rattle.paths.specs.Frames.{Increasing}
+use Rattle.paths.specs.inner.Order.{Increasing}
 use Rattle.paths.specs.Anchors.{kept}
 use Rattle.paths.specs.Passes.{passStage, passStrictness, passProblem, hasNucleus, nonEmpty}
 use Rattle.paths.proofs.Anchors.{keptIn-le}
@@ -30,8 +30,8 @@ use Rattle.record.proofs.Reading.{nuclei-first, added-next}
 use Rattle.limits.specs.Capacity.{mostBoundaries}
 use Rattle.stages.specs.Tables.{Tabled, tablesIn}
 use Rattle.rows.specs.Reads.{scoreRows}
-use Rattle.closed.specs.Asked.{Candidate, columnsOf, askedOf, Agrees, cellsFor, Unused, Ready}
-use Rattle.closed.specs.Answered.{passSection, StageLent}
+use Rattle.closed.specs.Asked.{CandidateIn, columnsOf, askedOf, Agrees, cellsFor, Unused, SearchInputs}
+use Rattle.closed.specs.Answered.{passSection, StageLists}
 use Rattle.closed.proofs.Bridge.{agrees, readable}
 
 -- what the tables of a stage are read by
@@ -57,27 +57,30 @@ some-there (x ∷ l) e = omega arith
 boundary-count : {bytes : List ℕ} {at : Layout} → Laid bytes at → length (phraseOf bytes .nuclei .boundaries) ≡ at .boundaries .count
 unfolding phraseOf phraseAt
 boundary-count {bytes} laid =
-    length-listed (frameAt bytes (layoutOf bytes .boundaries)) (layoutOf bytes .boundaries .count) ∙ ap (λ (l : Layout). l .boundaries .count) (sym (laid .layout))
+    length-listed (frameAt bytes (layoutOf bytes .boundaries)) (layoutOf bytes .boundaries .count)
+    ∙ ap (λ (l : Layout). l .boundaries .count) (sym (laid .layout))
 
-added-count : {bytes : List ℕ} {at : Layout} → Laid bytes at → length (phraseOf bytes .added .boundaries) ≡ at .added .count
+added-count : {bytes : List ℕ} {at : Layout} → Laid bytes at → length (phraseOf bytes .added .boundaries) ≡ at .«added_boundaries» .count
 unfolding phraseOf phraseAt
 added-count {bytes} laid =
-    length-listed (frameAt bytes (layoutOf bytes .added)) (layoutOf bytes .added .count) ∙ ap (λ (l : Layout). l .added .count) (sym (laid .layout))
+    length-listed (frameAt bytes (layoutOf bytes .«added_boundaries»)) (layoutOf bytes .«added_boundaries» .count) ∙ ap (λ (l : Layout). l .«added_boundaries» .count) (sym (laid .layout))
 
-pub pass-count : {bytes : List ℕ} {at : Layout} → Laid bytes at → (pass : Pass) → length (passStage (phraseOf bytes) pass .boundaries) ≡ passSection at pass .count
+pub pass-count : {bytes : List ℕ} {at : Layout} → Laid bytes at → (pass : Pass)
+    → length (passStage (phraseOf bytes) pass .boundaries) ≡ passSection at pass .count
 pass-count laid NucleiStrict = boundary-count laid
 pass-count laid CountStrict = added-count laid
 pass-count laid CountRelaxed = added-count laid
 pass-count laid NucleiRelaxed = boundary-count laid
 
-module _ {bytes : List ℕ} {at : Layout} {costs : Costs} {candidate : ℕ} (given : Candidate bytes at costs candidate) where
+module _ {bytes : List ℕ} {at : Layout} {costs : Costs} {candidate : ℕ} (given : CandidateIn bytes at costs candidate) where
   stage-fits : (pass : Pass) → Fits (limitsOf bytes) (passStage (phraseOf bytes) pass)
   stage-fits NucleiStrict = fits (own-moderate bytes) (fit (given .laid) .nuclei)
   stage-fits CountStrict = fits (own-moderate bytes) (fit (given .laid) .added)
   stage-fits CountRelaxed = fits (own-moderate bytes) (fit (given .laid) .added)
   stage-fits NucleiRelaxed = fits (own-moderate bytes) (fit (given .laid) .nuclei)
 
-  rows-within : (pass : Pass) → passStage (phraseOf bytes) pass .firstRow + length (passStage (phraseOf bytes) pass .anchors) ≤ scoreRows (phraseOf bytes)
+  rows-within : (pass : Pass)
+      → passStage (phraseOf bytes) pass .firstRow + length (passStage (phraseOf bytes) pass .anchors) ≤ scoreRows (phraseOf bytes)
   rows-within NucleiStrict = omega (arith, nuclei-first bytes)
   rows-within CountStrict = omega (arith, added-next bytes)
   rows-within CountRelaxed = omega (arith, added-next bytes)
@@ -87,32 +90,43 @@ module _ {bytes : List ℕ} {at : Layout} {costs : Costs} {candidate : ℕ} (giv
   unfolding hasNucleus
   some-row voiced =
       let phrase = phraseOf bytes in
-      omega (arith, some-there (kept phrase (phrase .nuclei)) voiced, keptIn-le (phrase .mask) (phrase .nuclei .firstRow) (phrase .nuclei .anchors))
+      omega (
+        arith,
+        some-there (kept phrase (phrase .nuclei)) voiced,
+        keptIn-le (phrase .mask) (phrase .nuclei .firstRow) (phrase .nuclei .anchors),
+      )
 
-  module _ (pass : Pass) {strictness : Strictness} {n : ℕ} {words : List ℕ} {figures : List Float} (lent : StageLent (phraseOf bytes) (passStage (phraseOf bytes) pass) words figures)
+  module _ (pass : Pass) {strictness : Strictness} {n : ℕ} {words : List ℕ} {figures : List Float}
+      (lent : StageLists (phraseOf bytes) (passStage (phraseOf bytes) pass) words figures)
       (held : strictness ≡ passStrictness pass) (counted : n ≡ passSection at pass .count) where
     abbrev stage : Stage
     stage = passStage (phraseOf bytes) pass
 
     tabled : Tabled (phraseOf bytes) stage (tablesIn n words figures)
-    tabled = subst (λ (m : ℕ). Tabled (phraseOf bytes) stage (tablesIn m words figures)) (pass-count (given .laid) pass ∙ sym counted) (lent .tabled)
+    tabled =
+        subst (λ (m : ℕ). Tabled (phraseOf bytes) stage (tablesIn m words figures)) (pass-count (given .laid) pass ∙ sym counted)
+        (lent .tabled)
 
     -- the tables are those of the pass's problem
-    pub pass-agrees : Agrees (askedOf bytes candidate strictness n words figures) (passProblem (phraseOf bytes) pass (columnsOf bytes candidate))
+    pub pass-agrees : Agrees (askedOf bytes candidate strictness n words figures)
+        (passProblem (phraseOf bytes) pass (columnsOf bytes candidate))
     pass-agrees =
         let f = stage-fits pass in
-        subst⁻¹ (λ (x : Strictness). Agrees (askedOf bytes candidate x n words figures) (passProblem (phraseOf bytes) pass (columnsOf bytes candidate))) held
-        (agrees (phraseOf bytes) stage (tablesIn n words figures) tabled (f .anchorsUp) (f .boundsUp) (f .few) (passStrictness pass) (columnsOf bytes candidate))
+        subst⁻¹ (λ (x : Strictness). Agrees (askedOf bytes candidate x n words figures)
+        (passProblem (phraseOf bytes) pass (columnsOf bytes candidate))) held
+        (agrees (phraseOf bytes) stage (tablesIn n words figures) tabled (f .anchorsUp) (f .boundsUp) (f .few) (passStrictness pass)
+        (columnsOf bytes candidate))
 
-    pub pass-ready :
+    pub pass-inputs :
         {best : List Float} {back : List ℕ} → hasNucleus (phraseOf bytes) ≡ true → Unused best back (workCells (limitsOf bytes)) →
-        Ready bytes at costs candidate strictness n words figures best back
-    pass-ready voiced unused = record {
+        SearchInputs bytes at costs candidate strictness n words figures best back
+    pass-inputs voiced unused = record {
       given = given;
       lent = lent .whole;
       readable =
           let f = stage-fits pass in
-          readable (phraseOf bytes) stage (tablesIn n words figures) tabled (f .anchorsUp) (f .boundsUp) (f .few) strictness (scoreRows (phraseOf bytes)) (some-row voiced) (rows-within pass);
+          readable (phraseOf bytes) stage (tablesIn n words figures) tabled (f .anchorsUp) (f .boundsUp) (f .few) strictness
+          (scoreRows (phraseOf bytes)) (some-row voiced) (rows-within pass);
       some = (passProblem (phraseOf bytes) pass (columnsOf bytes candidate), pass-agrees);
       unused = record {
         values = omega (arith, cells, unused .values);

@@ -17,7 +17,7 @@ use Rattle.paths.specs.Demand.{found, none, unvoiced, answerNumber, Answer as D
 use Rattle.paths.specs.Search.{orElse}
 use Rattle.stages.specs.Tables.{Tabled, tablesIn}
 use Rattle.rows.specs.Traced.{UnitsAre}
-use Rattle.rows.specs.Reads.{Lent}
+use Rattle.rows.specs.Reads.{WholeLists}
 use Rattle.closed.specs.declared.path.Found.{Found as PathFound}
 use Rattle.closed.specs.declared.path.Found.the-variants.{Sum, NoPath}
 use Rattle.closed.specs.declared.search.Answer.{Answer}
@@ -45,11 +45,12 @@ isFound Unvoiced = false
 
 -- where the boundaries of a pass's stage stand in the record
 abbrev pub passSection : Layout → Pass → Section
-passSection at pass = ofPass (at .boundaries) (at .added) pass
+passSection at pass = ofPass (at .boundaries) (at .«added_boundaries») pass
 
 -- a pass, or else what the later ones give
 abbrev pub passThen : Phrase → List ℕ → Pass → Demanded → Demanded
-passThen phrase columns pass later = orElse pass (passProblem phrase pass columns) (chosenPath (passProblem phrase pass columns) (length columns)) later
+passThen phrase columns pass later =
+    orElse pass (passProblem phrase pass columns) (chosenPath (passProblem phrase pass columns) (length columns)) later
 
 -- one pass by itself
 abbrev pub passAnswer : Phrase → Pass → List ℕ → Demanded
@@ -70,12 +71,13 @@ pub record RunsOf (phrase : Phrase) (runs : Runs) : Type 0 where
   pub voiced : runs .voiced ≡ hasNucleus phrase
   pub added : runs .added ≡ nonEmpty (phrase .added .anchors)
 
--- the tables of a stage, in lent lists
-pub record StageLent (phrase : Phrase) (stage : Stage) (words : List ℕ) (figures : List Float) : Type 0 where
-  pub whole : Lent words figures
+-- Lent lists that hold the tables of a stage.
+pub record StageLists (phrase : Phrase) (stage : Stage) (words : List ℕ) (figures : List Float) : Type 0 where
+  pub whole : WholeLists words figures
   pub tabled : Tabled phrase stage (tablesIn (length (stage .boundaries)) words figures)
 
--- those of the nuclei's stage and, where there is one, of the added stage
-pub record BothLent (phrase : Phrase) (words : List ℕ) (figures : List Float) (addedWords : List ℕ) (addedFigures : List Float) : Type 0 where
-  pub nuclei : StageLent phrase (phrase .nuclei) words figures
-  pub added : nonEmpty (phrase .added .anchors) ≡ true → StageLent phrase (phrase .added) addedWords addedFigures
+-- What holds of two lent lists and their stage holds of those of the nuclei's stage and, where there is one, of those of the added stage.
+pub record ForBothStages (Holds : Stage → List ℕ → List Float → Type 0) (phrase : Phrase) (words : List ℕ) (figures : List Float)
+    (addedWords : List ℕ) (addedFigures : List Float) : Type 0 where
+  pub nuclei : Holds (phrase .nuclei) words figures
+  pub added : nonEmpty (phrase .added .anchors) ≡ true → Holds (phrase .added) addedWords addedFigures

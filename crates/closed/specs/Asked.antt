@@ -15,14 +15,15 @@ use Rattle.record.specs.Meaning.{phraseOf}
 use Rattle.record.specs.inner.Reading.{candidateOf}
 use Rattle.stages.specs.Tables.{StageTables, tablesIn}
 use Rattle.rows.specs.Rows.{StartsOf, GapsOf, Row, Same, first, unfilled}
-use Rattle.rows.specs.Reads.{Lent, scoreRows}
+use Rattle.rows.specs.Reads.{WholeLists, scoreRows}
 use Rattle.rows.specs.Units.{UnitsOf}
 use Rattle.rows.specs.Ends.{StopsOf}
 use Rattle.closed.specs.declared.path.Path.{Path}
-use Rattle.closed.specs.Searched.{rowWith, scoresIn, lowIn, endIn, Readable}
+use Rattle.closed.specs.Searched.{rowWith, scoresIn, lowIn, endIn, ReadableTables}
 use Rattle.closed.specs.Reported.{AllRows, Reports}
 
-pub record Candidate (bytes : List ℕ) (at : Layout) (costs : Costs) (candidate : ℕ) : Type 0 where
+-- The number of a candidate of an accepted record, with the record's layout and costs as the code holds them.
+pub record CandidateIn (bytes : List ℕ) (at : Layout) (costs : Costs) (candidate : ℕ) : Type 0 where
   pub laid : Laid bytes at
   pub figures : costs ≡ phraseOf bytes .costs
   pub listed : candidate < length (phraseOf bytes .candidates)
@@ -50,7 +51,9 @@ pub record Agrees (asked : Asked) (q : Problem) : Type 0 where
   pub origins : Origins (q .unitOk) (asked .tables .size) (lowIn (asked .tables)) (endIn (asked .tables) (asked .strictness))
   pub units :
       (s : ℕ) → s < length (asked .columns) →
-      UnitsOf q s (rowWith (asked .tables) (scoresIn (asked .phrase) (asked .tables) (getD (asked .columns) s 0)) (asked .phrase .costs) (asked .strictness)) (asked .tables .size)
+      UnitsOf q s
+      (rowWith (asked .tables) (scoresIn (asked .phrase) (asked .tables) (getD (asked .columns) s 0))
+      (asked .phrase .costs) (asked .strictness)) (asked .tables .size)
 
 -- so many cells of the work areas, for the rows of no units and of each count up to that of the columns
 abbrev pub cellsFor : Asked → ℕ
@@ -61,11 +64,13 @@ pub record Unused (best : List Float) (back : List ℕ) (cells : ℕ) : Type 0 w
   pub marks : cells ≤ length back
   pub zero : Row best back first cells unfilled
 
--- What it rests on: an accepted record, whole lists whose tables are those of some problem, and unused cells.
-pub record Ready (bytes : List ℕ) (at : Layout) (costs : Costs) (candidate : ℕ) (strictness : Strictness) (n : ℕ) (words : List ℕ) (figures best : List Float) (back : List ℕ) : Type 0 where
-  pub given : Candidate bytes at costs candidate
-  pub lent : Lent words figures
-  pub readable : Readable (tablesIn n words figures) strictness (scoreRows (phraseOf bytes))
+-- What one search is called with: a candidate of an accepted record, whole lists whose tables can be read and are those of some problem,
+-- and unused cells.
+pub record SearchInputs (bytes : List ℕ) (at : Layout) (costs : Costs) (candidate : ℕ) (strictness : Strictness) (n : ℕ) (words : List ℕ)
+    (figures best : List Float) (back : List ℕ) : Type 0 where
+  pub given : CandidateIn bytes at costs candidate
+  pub lent : WholeLists words figures
+  pub readable : ReadableTables (tablesIn n words figures) strictness (scoreRows (phraseOf bytes))
   pub some : (q : Problem) × Agrees (askedOf bytes candidate strictness n words figures) q
   pub unused : Unused best back (cellsFor (askedOf bytes candidate strictness n words figures))
 

@@ -17,7 +17,8 @@ abbrev pub UnfilledAfter : List Float → List ℕ → ℕ → ℕ → Type 0
 UnfilledAfter best back n s = Row best back (λ j. rowAt n s (n + j)) n unfilled
 
 -- The row after that of s units has what the units bring and the gaps carry on, and all other cells are as they were.
-pub record NextRow (best : List Float) (back : List ℕ) (best′ : List Float) (back′ : List ℕ) (n s : ℕ) (cells : ℕ → Cell Marked) : Type 0 where
+pub record NextRow (best : List Float) (back : List ℕ) (best′ : List Float) (back′ : List ℕ) (n s : ℕ) (cells : ℕ → Cell Marked) :
+    Type 0 where
   pub row : Row best′ back′ (λ j. rowAt n s (n + j)) n cells
   pub before : (at : ℕ) → at < s * n + n → Same best back best′ back′ at
   pub after : (at : ℕ) → s * n + n + n ≤ at → Same best back best′ back′ at

@@ -32,9 +32,9 @@ lowIn t j = getD (t .low) j 0
 abbrev pub endIn : StageTables → Strictness → ℕ → ℕ
 endIn t strictness j = getD (endsIn t strictness) j 0
 
--- What may be read of the tables: origins come before their targets, their units have a duration, rows are rows of scores; and what each
+-- Tables that the search can read: origins come before their targets, their units have a duration, rows are rows of scores; and what each
 -- count is said to reach first follows from the origins.
-pub record Readable (t : StageTables) (strictness : Strictness) (scoreRows : ℕ) : Type 0 where
+pub record ReadableTables (t : StageTables) (strictness : Strictness) (scoreRows : ℕ) : Type 0 where
   pub few : t .size ≤ mostBoundaries
   pub earlier : (j : ℕ) → j < t .size → endIn t strictness j ≤ j
   pub inside : (j : ℕ) → j < t .size → getD (t .middle) j 0 ≤ endIn t strictness j

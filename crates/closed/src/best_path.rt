@@ -2,7 +2,7 @@
 
 ghost use mathlib.Core.Path.{_≡_};
 ghost use lib.ListN.{length};
-ghost use Rattle.closed.specs.Asked.{columnsOf, askedOf, Ready, RowsFilled, ReportsFor};
+ghost use Rattle.closed.specs.Asked.{columnsOf, askedOf, SearchInputs, RowsFilled, ReportsFor};
 use crate::fill::fill_next;
 use crate::path::Found;
 use crate::path::Path;
@@ -32,9 +32,10 @@ pub fn fill_rows<'a>(
     candidate: usize,
     k: usize,
 )
-    requires { ⌜ Ready (now bytes) at costs candidate strictness n (now words) (now figures) (now best) (now back) ⌝ }
+    requires { ⌜ SearchInputs (now bytes) at costs candidate strictness n (now words) (now figures) (now best) (now back) ⌝ }
     requires { ⌜ k ≡ length (columnsOf (now bytes) candidate) ⌝ }
-    ensures { λ _. ⌜ RowsFilled (askedOf (now (bytes .entry)) candidate strictness n (now (words .entry)) (now (figures .entry))) (now (best .entry)) (now (back .entry)) (now (best .exit)) (now (back .exit)) ⌝ }
+    ensures { λ _. ⌜ RowsFilled (askedOf (now (bytes .entry)) candidate strictness n (now (words .entry)) (now (figures .entry)))
+        (now (best .entry)) (now (back .entry)) (now (best .exit)) (now (back .exit)) ⌝ }
 {
     fill_starts(best, back, figures, n);
     for s in 0..k {
@@ -69,7 +70,7 @@ pub fn best_path<'a>(
     strictness: Strictness,
     candidate: usize,
 ) -> Path
-    requires { ⌜ Ready (now bytes) at costs candidate strictness n (now words) (now figures) (now best) (now back) ⌝ }
+    requires { ⌜ SearchInputs (now bytes) at costs candidate strictness n (now words) (now figures) (now best) (now back) ⌝ }
     ensures { λ r. ⌜ ReportsFor (askedOf (now (bytes .entry)) candidate strictness n (now (words .entry)) (now (figures .entry))) r ⌝ }
     ensures { λ _. ⌜ (now (best .exit) ≡ now (best .entry)) × (now (back .exit) ≡ now (back .entry)) ⌝ }
 {

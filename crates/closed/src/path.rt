@@ -47,9 +47,11 @@ pub fn finish(
     k: usize,
     since: usize,
 ) -> Path
-    requires { ⌜ (k ≤ mostUnits) × (n ≤ 2 ^ 32) × (suc k * n ≤ length (now best)) × (suc k * n ≤ length (now back)) × (n ≤ length (now stop)) × (since < n) ⌝ }
+    requires { ⌜ (k ≤ mostUnits) × (n ≤ 2 ^ 32) × (suc k * n ≤ length (now best)) × (suc k * n ≤ length (now back))
+        × (n ≤ length (now stop)) × (since < n) ⌝ }
     requires { ⌜ SomeRows (now stop) (now best) (now back) n k since ⌝ }
-    ensures { λ r. ⌜ ((q : Problem) → StopsOf q (now (stop .entry)) n → AllRows q (now (best .entry)) (now (back .entry)) n k → LastReached q n k since → Reports q k r) ⌝ }
+    ensures { λ r. ⌜ ((q : Problem) → StopsOf q (now (stop .entry)) n → AllRows q (now (best .entry)) (now (back .entry)) n k
+        → LastReached q n k since → Reports q k r) ⌝ }
     ensures { λ _. ⌜ now (best .exit) ≡ replicate (suc k * n) (ofBits binary64 0) ++ drop (suc k * n) (now (best .entry)) ⌝ }
     ensures { λ _. ⌜ now (back .exit) ≡ replicate (suc k * n) 0 ++ drop (suc k * n) (now (back .entry)) ⌝ }
 {

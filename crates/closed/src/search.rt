@@ -9,8 +9,8 @@ ghost use Rattle.limits.specs.Sizes.{workCells};
 ghost use Rattle.record.specs.Layout.{limitsOf};
 ghost use Rattle.record.specs.Meaning.{phraseOf};
 ghost use Rattle.rows.specs.Traced.{UnitsAre};
-ghost use Rattle.closed.specs.Answered.{Says, isFound, passWord, passSection, answerIn, passAnswer, addedAnswer, RunsOf, StageLent, BothLent};
-ghost use Rattle.closed.specs.Asked.{Candidate, columnsOf, Unused};
+ghost use Rattle.closed.specs.Answered.{Says, isFound, passWord, passSection, answerIn, passAnswer, addedAnswer, RunsOf, StageLists, ForBothStages};
+ghost use Rattle.closed.specs.Asked.{CandidateIn, columnsOf, Unused};
 use crate::best_path::best_path;
 use crate::path::Found;
 use crate::path::no_units;
@@ -80,8 +80,8 @@ fn boundary_count(at: Layout, pass: Pass) -> usize
 {
     match pass {
         Pass::NucleiStrict => at.boundaries.count,
-        Pass::CountStrict => at.added.count,
-        Pass::CountRelaxed => at.added.count,
+        Pass::CountStrict => at.added_boundaries.count,
+        Pass::CountRelaxed => at.added_boundaries.count,
         Pass::NucleiRelaxed => at.boundaries.count,
     }
 }
@@ -113,8 +113,8 @@ pub fn attempt<'a>(
     figures: &'a [f64],
     pass: Pass,
 ) -> Searched
-    requires { ⌜ Candidate (now bytes) (task .at) (task .costs) (task .candidate) × (hasNucleus (phraseOf (now bytes)) ≡ true) ⌝ }
-    requires { ⌜ StageLent (phraseOf (now bytes)) (passStage (phraseOf (now bytes)) pass) (now words) (now figures) ⌝ }
+    requires { ⌜ CandidateIn (now bytes) (task .at) (task .costs) (task .candidate) × (hasNucleus (phraseOf (now bytes)) ≡ true) ⌝ }
+    requires { ⌜ StageLists (phraseOf (now bytes)) (passStage (phraseOf (now bytes)) pass) (now words) (now figures) ⌝ }
     requires { ⌜ Unused (now best) (now back) (workCells (limitsOf (now bytes))) ⌝ }
     ensures { λ r. ⌜ Says (passAnswer (phraseOf (now (bytes .entry))) pass (columnsOf (now (bytes .entry)) (task .candidate))) r ⌝ }
     ensures { λ _. ⌜ (now (best .exit) ≡ now (best .entry)) × (now (back .exit) ≡ now (back .entry)) ⌝ }
@@ -159,8 +159,8 @@ fn search_added<'a>(
     words: &'a [u32],
     figures: &'a [f64],
 ) -> Searched
-    requires { ⌜ Candidate (now bytes) (task .at) (task .costs) (task .candidate) × (hasNucleus (phraseOf (now bytes)) ≡ true) ⌝ }
-    requires { ⌜ StageLent (phraseOf (now bytes)) (phraseOf (now bytes) .added) (now words) (now figures) ⌝ }
+    requires { ⌜ CandidateIn (now bytes) (task .at) (task .costs) (task .candidate) × (hasNucleus (phraseOf (now bytes)) ≡ true) ⌝ }
+    requires { ⌜ StageLists (phraseOf (now bytes)) (phraseOf (now bytes) .added) (now words) (now figures) ⌝ }
     requires { ⌜ Unused (now best) (now back) (workCells (limitsOf (now bytes))) ⌝ }
     ensures { λ r. ⌜ Says (addedAnswer (phraseOf (now (bytes .entry))) (columnsOf (now (bytes .entry)) (task .candidate))) r ⌝ }
     ensures { λ _. ⌜ (now (best .exit) ≡ now (best .entry)) × (now (back .exit) ≡ now (back .entry)) ⌝ }
@@ -186,8 +186,9 @@ pub fn search<'a>(
     added_figures: &'a [f64],
     runs: Runs,
 ) -> Searched
-    requires { ⌜ Candidate (now bytes) (task .at) (task .costs) (task .candidate) × RunsOf (phraseOf (now bytes)) runs ⌝ }
-    requires { ⌜ BothLent (phraseOf (now bytes)) (now words) (now figures) (now «added_words») (now «added_figures») ⌝ }
+    requires { ⌜ CandidateIn (now bytes) (task .at) (task .costs) (task .candidate) × RunsOf (phraseOf (now bytes)) runs ⌝ }
+    requires { ⌜ ForBothStages (StageLists (phraseOf (now bytes))) (phraseOf (now bytes)) (now words) (now figures) (now «added_words»)
+        (now «added_figures») ⌝ }
     requires { ⌜ Unused (now best) (now back) (workCells (limitsOf (now bytes))) ⌝ }
     ensures { λ r. ⌜ Says (chosen (phraseOf (now (bytes .entry))) (columnsOf (now (bytes .entry)) (task .candidate))) r ⌝ }
     ensures { λ _. ⌜ (now (best .exit) ≡ now (best .entry)) × (now (back .exit) ≡ now (back .entry)) ⌝ }

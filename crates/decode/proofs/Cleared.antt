@@ -12,7 +12,8 @@ use Rattle.closed.specs.Asked.{Unused}
 module _ {A : Type 0} (x d : A) (old : List A) (cells : ℕ) {new : List A} (e : new ≡ replicate cells x ++ drop cells old) where
   at-front : (i : ℕ) → i < cells → getD new i d ≡ x
   at-front i below =
-      ap (λ (l : List A). getD l i d) e ∙ List·getD-append (replicate cells x) (drop cells old) d i (omega (arith, length-replicate cells x))
+      ap (λ (l : List A). getD l i d) e
+      ∙ List·getD-append (replicate cells x) (drop cells old) d i (omega (arith, length-replicate cells x))
       ∙ getD-replicate cells i x d below
 
   front-there : cells ≤ length new

@@ -6,9 +6,10 @@ use native.Mathlib.Omega.{arith}
 use lib.ListN.{length, take, drop, replicate, length-map}
 use lib.Seq.{take-append-seam, drop-append-seam, length-take-le}
 use Rattle.laws.proofs.Listed.{length-listed, length-table}
-use Rattle.laws.specs.Listed.{padded, listed, tableOf}
-use Rattle.clip.specs.Clip.{reported, startsOf, endsOf}
-use Rattle.clip.specs.inner.Units.{placedRange, placedFrom, Alike, Clipped}
+use Rattle.laws.specs.Listed.{listed}
+use Rattle.laws.specs.inner.Tables.{padded, tableOf}
+use Rattle.clip.specs.Clip.{reported}
+use Rattle.clip.specs.inner.Units.{startsOf, endsOf, placedRange, placedFrom, Alike, Clipped}
 use Rattle.frames.specs.declared.span.Span.{Span}
 use Rattle.decoding.proofs.Units.{length-reported}
 
@@ -52,7 +53,11 @@ module _ (f g h : ℕ → ℕ) (k size : ℕ) {starts ends rows : List ℕ}
   clips = reported (placedFrom (listed f k) (listed g k) (listed h k))
 
   pub alike : Alike (take k starts) (take k ends) (take k rows)
-  alike = record { started = front-length f k size s few ∙ sym (front-length h k size r few); ended = front-length g k size e few ∙ sym (front-length h k size r few) }
+  alike =
+      record {
+        started = front-length f k size s few ∙ sym (front-length h k size r few);
+        ended = front-length g k size e few ∙ sym (front-length h k size r few);
+      }
 
   same-clips : reported (placedFrom (take k starts) (take k ends) (take k rows)) ≡ clips
   same-clips i = reported (placedFrom (front f k size s i) (front g k size e i) (front h k size r i))

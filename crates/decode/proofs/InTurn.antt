@@ -1,5 +1,5 @@
 -- The candidates in their order: after each, the output holds the entries so far, ranked.
-use Prim.Native.Nat.{ℕ, zero, suc, _+_, _*_, _<_}
+use Prim.Native.Nat.{ℕ, _+_, _*_, _<_}
 use mathlib.Core.List.{List, [], _∷_, _++_, map}
 use mathlib.Core.Option.{none}
 use mathlib.Core.Path.{_≡_, refl, sym, ap, ap₂, _∙_}
@@ -18,30 +18,29 @@ use Rattle.record.specs.inner.Reading.{candidateOf}
 use Rattle.entries.specs.Entry.{Entry}
 use Rattle.entries.specs.Words.{allWords}
 use Rattle.entries.specs.Ranking.{rankOnto, ranked}
-use Rattle.entries.specs.inner.Placing.{Fit, All, Inserted}
-use Rattle.entries.proofs.Ranks.{all-ranked, ranked-more}
+use Rattle.laws.proofs.Each.{each-map, each-take}
+use Rattle.entries.specs.inner.Placing.{Inserted}
+use Rattle.entries.proofs.Ranks.{each-ranked, ranked-more}
 use Rattle.entries.proofs.RankedLength.{length-ranked}
 use Rattle.decoding.specs.EntryOf.{entryOf, entriesOf}
-use Rattle.decoding.proofs.Demands.{entries-fit}
+use Rattle.decoding.proofs.Demands.{candidates-fit}
 
 module _ (most : ℕ) (phrase : Phrase) where
   -- the entries of the first n candidates
   abbrev pub firstEntries : ℕ → List Entry
   firstEntries n = map (entryOf phrase) (take n (phrase .candidates))
 
-  map-snoc : (cs : List Candidate) (c : Candidate) → map (entryOf phrase) (cs ++ (c ∷ [])) ≡ map (entryOf phrase) cs ++ (entryOf phrase c ∷ [])
+  map-snoc : (cs : List Candidate) (c : Candidate)
+      → map (entryOf phrase) (cs ++ (c ∷ [])) ≡ map (entryOf phrase) cs ++ (entryOf phrase c ∷ [])
   map-snoc [] c = refl
   map-snoc (x ∷ cs) c = ap (λ (es : List Entry). entryOf phrase x ∷ es) (map-snoc cs c)
 
-  one-more : (n : ℕ) → n < length (phrase .candidates) → firstEntries n ++ (entryOf phrase (candidateOf phrase n) ∷ []) ≡ firstEntries (n + 1)
+  one-more : (n : ℕ) → n < length (phrase .candidates)
+      → firstEntries n ++ (entryOf phrase (candidateOf phrase n) ∷ []) ≡ firstEntries (n + 1)
   one-more n below =
       sym (map-snoc (take n (phrase .candidates)) (candidateOf phrase n))
-      ∙ ap (map (entryOf phrase)) (sym (take-suc (phrase .candidates) n _ below) ∙ ap (λ (m : ℕ). take m (phrase .candidates)) (sym (add-one n)))
-
-  all-first : (cs : List Candidate) (n : ℕ) → All (Fit most) (map (entryOf phrase) cs) → All (Fit most) (map (entryOf phrase) (take n cs))
-  all-first cs zero fits = All.none
-  all-first [] (suc n) fits = All.none
-  all-first (c ∷ cs) (suc n) (All.more fit fits) = All.more fit (all-first cs n fits)
+      ∙ ap (map (entryOf phrase))
+      (sym (take-suc (phrase .candidates) n _ below) ∙ ap (λ (m : ℕ). take m (phrase .candidates)) (sym (add-one n)))
 
   -- what the output holds after n candidates, from what it held before all of them
   abbrev pub heldAfter : ℕ → List ℕ → List ℕ
@@ -65,8 +64,10 @@ module _ (bytes : List ℕ) (accepted : refusalOf bytes ≡ none) where
       → Inserted most n (entryOf phrase (candidateOf phrase n)) before after → after ≡ heldAfter most phrase (n + 1) out
   next-held n out below held inserted =
       let counted : length (ranked (firstEntries most phrase n)) ≡ n =
-      length-ranked (firstEntries most phrase n) ∙ omega (arith, length-map (take n (phrase .candidates)) (entryOf phrase), length-take-le n (phrase .candidates) (omega arith)) in
-      inserted .ranked (ranked (firstEntries most phrase n)) (drop (n * entryWords most) out) (all-ranked _ (all-first most phrase (phrase .candidates) n (entries-fit bytes accepted))) counted held
+      length-ranked (firstEntries most phrase n)
+      ∙ omega (arith, length-map (take n (phrase .candidates)) (entryOf phrase), length-take-le n (phrase .candidates) (omega arith)) in
+      inserted .ranked (ranked (firstEntries most phrase n)) (drop (n * entryWords most) out)
+      (each-ranked _ (each-map (entryOf phrase) (each-take n (candidates-fit bytes accepted)))) counted held
       ∙ ap₂ (λ (es : List Entry) (rest : List ℕ). allWords most es ++ rest)
       (sym (ranked-more [] (firstEntries most phrase n) (entryOf phrase (candidateOf phrase n))) ∙ ap ranked (one-more most phrase n below))
       (drop-drop (entryWords most) (n * entryWords most) out ∙ ap (λ (k : ℕ). drop k out) (next-row n (entryWords most)))

@@ -11,7 +11,7 @@ use Rattle.laws.proofs.Numbers.{by-order}
 use Rattle.phrase.specs.Phrase.{Phrase, Stage}
 use Rattle.paths.specs.declared.passes.Strictness.{Strictness}
 use Rattle.paths.specs.declared.passes.Strictness.the-variants.{Strict, Relaxed}
-use Rattle.paths.specs.Frames.{Increasing}
+use Rattle.paths.specs.inner.Order.{Increasing}
 use Rattle.paths.specs.Anchors.{Anchor, kept, rowOr}
 use Rattle.paths.specs.inner.Ranges.{goesTo, originsEnd, before, lastOf, rowBefore}
 use Rattle.paths.specs.StageProblem.{boundary}
@@ -22,7 +22,7 @@ use Rattle.frames.specs.declared.span.Span.{Span}
 use Rattle.stages.specs.Lists.{middlesAt, rowsAt, spanStartsAt, spanEndsAt}
 use Rattle.prepare.specs.Sides.{anchorSpan, spanBefore}
 use Rattle.clip.specs.Clip.{anchored, unanchored, given}
-use Rattle.entries.specs.Entry.{noRow}
+use Rattle.limits.specs.Common.{absent}
 use Rattle.decoding.specs.Report.{lowEdge, highEdge, rowSpan, heldBy, placedBy, placedUnit}
 use Rattle.decoding.proofs.Admitted.{UnitOk}
 use Rattle.decode.specs.declared.report.PlacedUnit.{PlacedUnit}
@@ -32,7 +32,7 @@ use Rattle.decode.specs.Places.{placeOf}
 abbrev pub placeFor : Phrase → Stage → Bounds → List Anchor → PlacedUnit
 placeFor phrase stage unit anchors =
     let span = given (placedBy phrase stage unit anchors) in
-    record { start = span .start; end = span .end; row = rowOr noRow anchors }
+    record { start = span .start; end = span .end; row = rowOr absent anchors }
 
 abbrev pub placeIn : Phrase → Stage → Bounds → PlacedUnit
 placeIn phrase stage unit = placeFor phrase stage unit (heldBy phrase stage unit)
@@ -57,15 +57,19 @@ module _ (phrase : Phrase) (stage : Stage) (up : Increasing (stage .anchors)) (b
         held-in-range (kept phrase stage) (stage .boundaries) rising boundsUp (unit .first) (unit .last) (ok .forward) (ok .inside) relaxed
         ∙ ap (λ (c : Bool). cond c lastBefore []) e
 
-    -- what holds of no anchor where the unit does not start before the middle, and else of the last one before its end, holds of the anchors held
+    -- what holds of no anchor where the unit does not start before the middle, and else of the last one before its end, holds of the
+    -- anchors held
     pub held-either :
-        (P : List Anchor → Type 0) → (middle ≤ unit .first → P []) → ((anchor : Anchor) → lastBefore ≡ anchor ∷ [] → unit .first < middle → P (anchor ∷ [])) →
+        (P : List Anchor → Type 0) → (middle ≤ unit .first → P []) →
+        ((anchor : Anchor) → lastBefore ≡ anchor ∷ [] → unit .first < middle → P (anchor ∷ [])) →
         P (heldBy phrase stage unit)
     held-either P none one =
         by-order (unit .first) middle
         (λ less.
         let is = held-as true (lt-ltb (unit .first) middle less) in
-        let alone = one-in-range (kept phrase stage) (stage .boundaries) rising boundsUp (unit .first) (unit .last) (ok .forward) (ok .inside) relaxed less in
+        let alone =
+        one-in-range (kept phrase stage) (stage .boundaries) rising boundsUp (unit .first) (unit .last) (ok .forward)
+        (ok .inside) relaxed less in
         subst P (sym is) (single lastBefore refl (sym (ap length is) ∙ alone) less))
         (λ more. subst P (sym (held-as false (le-ltb (unit .first) middle more))) (none more))
       where
@@ -80,7 +84,7 @@ module _ (phrase : Phrase) (stage : Stage) (up : Increasing (stage .anchors)) (b
     abbrev fromTables : Bool → PlacedUnit
     fromTables b =
         cond b (record { start = spanThere .start; end = spanThere .end; row = rowBefore 0 (kept phrase stage) (boundary stage (unit .last)) })
-        (record { start = boundary stage (unit .first); end = boundary stage (unit .last); row = noRow })
+        (record { start = boundary stage (unit .first); end = boundary stage (unit .last); row = absent })
 
     pub placed-by-tables : fromTables (ltb (unit .first) middle) ≡ placeIn phrase stage unit
     unfolding placedBy rowSpan anchorSpan
@@ -90,20 +94,20 @@ module _ (phrase : Phrase) (stage : Stage) (up : Increasing (stage .anchors)) (b
         (λ anchor e h. ap fromTables (lt-ltb (unit .first) middle h) ∙ rw e)
 
     -- the row says whether there is an anchor
-    pub told-by-row : rowBefore 0 (kept phrase stage) (boundary stage (unit .last)) < noRow →
+    pub told-by-row : rowBefore 0 (kept phrase stage) (boundary stage (unit .last)) < absent →
         let place = placeIn phrase stage unit in
         let span : Span = record { start = place .start; end = place .end } in
-        cond (eqb (place .row) noRow) (unanchored span) (anchored span) ≡ placedUnit phrase stage unit
+        cond (eqb (place .row) absent) (unanchored span) (anchored span) ≡ placedUnit phrase stage unit
     unfolding placedBy
     told-by-row below =
         held-either (λ anchors.
         let place = placeFor phrase stage unit anchors in
         let span : Span = record { start = place .start; end = place .end } in
-        cond (eqb (place .row) noRow) (unanchored span) (anchored span) ≡ placedBy phrase stage unit anchors)
+        cond (eqb (place .row) absent) (unanchored span) (anchored span) ≡ placedBy phrase stage unit anchors)
         (λ h. refl)
         (λ anchor e h.
-        let row : anchor .row < noRow = subst (λ (l : List Anchor). rowOr 0 l < noRow) e below in
-        ap (λ (b : Bool). cond b (unanchored (rowSpan phrase stage (anchor .frame))) (anchored (rowSpan phrase stage (anchor .frame)))) (ne-eqb (anchor .row) noRow (λ e. omega arith)))
+        let row : anchor .row < absent = subst (λ (l : List Anchor). rowOr 0 l < absent) e below in
+        ap (λ (b : Bool). cond b (unanchored (rowSpan phrase stage (anchor .frame))) (anchored (rowSpan phrase stage (anchor .frame)))) (ne-eqb (anchor .row) absent (λ e. omega arith)))
 
 -- ---- a unit with its anchor, and one without
 
@@ -111,7 +115,7 @@ module _ (words : List ℕ) (i j : ℕ) where
   abbrev either : Bool → PlacedUnit
   either b =
       cond b (record { start = getD words (spanStartsAt + j) 0; end = getD words (spanEndsAt + j) 0; row = getD words (rowsAt + j) 0 })
-      (record { start = getD words i 0; end = getD words j 0; row = noRow })
+      (record { start = getD words i 0; end = getD words j 0; row = absent })
 
   pub place-anchored : i < getD words (middlesAt + j) 0 → either true ≡ placeOf words i j
   unfolding placeOf

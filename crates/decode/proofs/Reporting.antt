@@ -10,10 +10,11 @@ use lib.Ieee.{Float}
 use lib.ListN.{length, getD, drop, replicate, length-map, length-replicate, List·getD-append, List·getD-map, length-append}
 use lib.Seq.{getD-take, getD-drop}
 use Rattle.laws.proofs.Listed.{length-listed, getD-listed, padded-in, length-padded, table-at, length-table}
-use Rattle.laws.specs.Listed.{padded, listed}
+use Rattle.laws.specs.Listed.{listed}
+use Rattle.laws.specs.inner.Tables.{padded}
 use Rattle.phrase.specs.Phrase.{Phrase, Stage}
 use Rattle.paths.specs.declared.passes.Strictness.{Strictness}
-use Rattle.paths.specs.Frames.{Increasing}
+use Rattle.paths.specs.inner.Order.{Increasing}
 use Rattle.paths.specs.Anchors.{Anchor, kept}
 use Rattle.paths.specs.declared.passes.Strictness.the-variants.{Strict}
 use Rattle.paths.specs.inner.Ranges.{rowBefore}
@@ -29,7 +30,7 @@ use Rattle.prepare.specs.Sides.{Prepared}
 use Rattle.clip.specs.Clip.{Placed, anchored, unanchored, reported}
 use Rattle.clip.specs.inner.Units.{placedAt, placedRange}
 use Rattle.frames.specs.declared.span.Span.{Span}
-use Rattle.entries.specs.Entry.{noRow}
+use Rattle.limits.specs.Common.{absent}
 use Rattle.decode.specs.declared.report.PlacedUnit.{PlacedUnit}
 use Rattle.decode.specs.declared.report.Reported.{Reported}
 use Rattle.decoding.specs.Report.{lowEdge, highEdge, heldBy, placedUnit, reportedUnit, reportedIn}
@@ -67,7 +68,8 @@ zip-at held (b ∷ bs) (x ∷ xs) e (suc i) h = zip-at held bs xs (omega arith) 
 -- ---- the units of a path through a stage
 
 -- what is known of a stage's words and a path's units
-pub record Found (phrase : Phrase) (stage : Stage) (strictness : Strictness) (words : List ℕ) (units : Units) (bs : List Bounds) : Type 0 where
+pub record Found (phrase : Phrase) (stage : Stage) (strictness : Strictness) (words : List ℕ) (units : Units)
+    (bs : List Bounds) : Type 0 where
   pub figures : List Float
   pub prepared : Prepared phrase stage (lowEdge (phrase .speech)) (highEdge (phrase .speech)) words figures
   pub are : UnitsAre units bs
@@ -75,22 +77,17 @@ pub record Found (phrase : Phrase) (stage : Stage) (strictness : Strictness) (wo
   pub fewBoundaries : length (stage .boundaries) ≤ mostBoundaries
   pub up : Increasing (stage .anchors)
   pub boundsUp : Increasing (stage .boundaries)
-  pub rows : (i : ℕ) → i < length (stage .boundaries) → rowBefore 0 (kept phrase stage) (boundary stage i) < noRow
+  pub rows : (i : ℕ) → i < length (stage .boundaries) → rowBefore 0 (kept phrase stage) (boundary stage i) < absent
   pub ok : (i : ℕ) → i < length bs → UnitOk phrase stage strictness (getD bs i noBounds)
 
 -- an entry of the table at a place of a list
 entry-of : (at : ℕ) (words : List ℕ) (i : ℕ) → i < mostBoundaries → getD (tableAt at words) i 0 ≡ getD words (at + i) 0
 entry-of at words i below = getD-take mostBoundaries (drop at words) i 0 below ∙ getD-drop at words i 0
 
-module _ {phrase : Phrase} {stage : Stage} {strictness : Strictness} {words : List ℕ} {units : Units} {bs : List Bounds} (f : Found phrase stage strictness words units bs) where
+module _ {phrase : Phrase} {stage : Stage} {strictness : Strictness} {words : List ℕ} {units : Units} {bs : List Bounds}
+    (f : Found phrase stage strictness words units bs) where
   abbrev t : StageTables
   t = tablesIn (length (stage .boundaries)) words (f .figures)
-
-  abbrev lo : ℕ
-  lo = lowEdge (phrase .speech)
-
-  abbrev hi : ℕ
-  hi = highEdge (phrase .speech)
 
   abbrev tabled : Tabled phrase stage t
   tabled = f .prepared .tables .tabled
@@ -98,7 +95,8 @@ module _ {phrase : Phrase} {stage : Stage} {strictness : Strictness} {words : Li
   abbrev unit : ℕ → Bounds
   unit i = getD bs i noBounds
 
-  number-is : (f : Bounds → ℕ) → f noBounds ≡ 0 → {numbers : List ℕ} → numbers ≡ Traced.padded mostUnits (map f bs) → (i : ℕ) → i < length bs → getD numbers i 0 ≡ f (unit i)
+  number-is : (f : Bounds → ℕ) → f noBounds ≡ 0 → {numbers : List ℕ} → numbers ≡ Traced.padded mostUnits (map f bs) → (i : ℕ)
+      → i < length bs → getD numbers i 0 ≡ f (unit i)
   number-is f none e i h =
       ap (λ (l : List ℕ). getD l i 0) e
       ∙ List·getD-append (map f bs) _ 0 i (omega (arith, length-map bs f))
@@ -144,7 +142,7 @@ module _ {phrase : Phrase} {stage : Stage} {strictness : Strictness} {words : Li
       let row = looked-up rowsAt _ _ (last-is i h) inside (tabled .rows _ inside) in
       let start = looked-up spanStartsAt _ _ (last-is i h) inside (ap (λ (l : List ℕ). getD l (unit i .last) 0) (f .prepared .starts) ∙ table-at _ (length (stage .boundaries)) mostBoundaries 0 0 _ inside) in
       let end = looked-up spanEndsAt _ _ (last-is i h) inside (ap (λ (l : List ℕ). getD l (unit i .last) 0) (f .prepared .ends) ∙ table-at _ (length (stage .boundaries)) mostBoundaries 0 0 _ inside) in
-      (λ x. cond (ltb (first-is i h x) (middle x)) (record { start = start x; end = end x; row = row x }) (record { start = from x; end = to x; row = noRow }))
+      (λ x. cond (ltb (first-is i h x) (middle x)) (record { start = start x; end = end x; row = row x }) (record { start = from x; end = to x; row = absent }))
       ∙ placed-by-tables phrase stage (f .up) (f .boundsUp) (f .ok i h)
 
   abbrev place : Bounds → PlacedUnit
@@ -156,7 +154,8 @@ module _ {phrase : Phrase} {stage : Stage} {strictness : Strictness} {words : Li
   placed-is : placedList words units (length bs) ≡ map (placedUnit phrase stage) bs
   placed-is =
       ap (placedRange (column (λ p. p .start)) (column (λ p. p .end)) (column (λ p. p .row)) 0) (length-listed _ (length bs))
-      ∙ units-from _ _ _ (placedUnit phrase stage) bs 0 (λ i h. (λ x. told (at (λ p. p .start) i h x) (at (λ p. p .end) i h x) (at (λ p. p .row) i h x))
+      ∙ units-from _ _ _ (placedUnit phrase stage) bs 0
+      (λ i h. (λ x. told (at (λ p. p .start) i h x) (at (λ p. p .end) i h x) (at (λ p. p .row) i h x))
       ∙ told-by-row phrase stage (f .up) (f .boundsUp) (f .ok i h) (f .rows _ (f .ok i h .inside)))
     where
       column : (PlacedUnit → ℕ) → List ℕ
@@ -166,13 +165,14 @@ module _ {phrase : Phrase} {stage : Stage} {strictness : Strictness} {words : Li
       at figure i h = ap (λ (n : ℕ). getD (column figure) n 0) (zero-add i) ∙ getD-listed _ (length bs) i 0 h ∙ ap figure (place-is i h)
 
       told : ℕ → ℕ → ℕ → Placed
-      told start end row = let span : Span = record { start = start; end = end } in cond (eqb row noRow) (unanchored span) (anchored span)
+      told start end row = let span : Span = record { start = start; end = end } in cond (eqb row absent) (unanchored span) (anchored span)
 
   spans-long : length spans ≡ length bs
   spans-long = length-reported (map (placedUnit phrase stage) bs) ∙ length-map bs (placedUnit phrase stage)
 
   -- an array of one figure of each span
-  module _ (figure : Span → ℕ) (none : figure noSpan ≡ 0) {numbers : List ℕ} (e : numbers ≡ padded (map figure (reported (placedList words units (length bs)))) mostUnits 0) where
+  module _ (figure : Span → ℕ) (none : figure noSpan ≡ 0) {numbers : List ℕ}
+      (e : numbers ≡ padded (map figure (reported (placedList words units (length bs)))) mostUnits 0) where
     figures : numbers ≡ padded (map figure spans) mostUnits 0
     figures = e ∙ ap (λ (us : List Placed). padded (map figure (reported us)) mostUnits 0) placed-is
 
@@ -195,8 +195,14 @@ module _ {phrase : Phrase} {stage : Stage} {strictness : Strictness} {words : Li
         few = omega (arith, long, f .few);
         each = λ i h.
             let below : i < length bs = omega (arith, long) in
-            let row = ap (λ (l : List ℕ). getD l i 0) (all .rows) ∙ table-at _ (length bs) mostUnits 0 0 i below ∙ ap (λ (p : PlacedUnit). p .row) (place-is i below) in
-            (λ x. record { start = figure-at (λ s. s .start) refl (all .starts) i below x; end = figure-at (λ s. s .end) refl (all .ends) i below x; row = row x })
+            let row =
+            ap (λ (l : List ℕ). getD l i 0) (all .rows) ∙ table-at _ (length bs) mostUnits 0 0 i below
+            ∙ ap (λ (p : PlacedUnit). p .row) (place-is i below) in
+            (λ x. record {
+              start = figure-at (λ s. s .start) refl (all .starts) i below x;
+              end = figure-at (λ s. s .end) refl (all .ends) i below x;
+              row = row x;
+            })
             ∙ sym (zip-at (heldBy phrase stage) bs spans spans-long i below);
         startsLong = figures-long (λ s. s .start) refl (all .starts);
         endsLong = figures-long (λ s. s .end) refl (all .ends);

@@ -20,7 +20,8 @@ pub record FoundPath (a : Answer) (r : Searched) (pass : Pass) (total : Float) :
 apart : {A : Type 0} → _≡_ {A = ℕ} 0 1 → A
 apart e = absurd (omega arith)
 
-pub says-found : (a : Answer) {r : Searched} {pass : Pass} {total : Float} → Says a r → r .answer ≡ Found pass total → FoundPath a r pass total
+pub says-found : (a : Answer) {r : Searched} {pass : Pass} {total : Float} → Says a r → r .answer ≡ Found pass total
+    → FoundPath a r pass total
 says-found (D.found pass path total) {pass = pass′} {total = total′} says e =
     let same : pass ≡ pass′ = cc in
     let sums : total ≡ total′ = cc in

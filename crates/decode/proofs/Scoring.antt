@@ -5,7 +5,7 @@ use mathlib.Core.List.{List}
 use mathlib.Core.Path.{_≡_, refl, sym, ap, subst, _∙_}
 use native.Mathlib.Omega.{arith}
 use lib.Dec.{T}
-use lib.ListN.{length, getD, length-replicate}
+use lib.ListN.{length, length-replicate}
 use lib.Ieee.{Float, isNan}
 use Rattle.ieee.specs.Convert.{clampedLog}
 use Rattle.ieee.specs.inner.Conversions.{ClampedLog}
@@ -41,7 +41,7 @@ use Rattle.record.proofs.Accepted.{fit}
 use Rattle.record.proofs.Reading.{few-units as candidate-units}
 use Rattle.prepare.specs.Sides.{Prepared}
 use Rattle.prepare.proofs.Parts.{few-boundaries, anchors-fit, boundaries-fit, rows-fit}
-use Rattle.entries.specs.Entry.{noRow}
+use Rattle.limits.specs.Common.{absent}
 use Rattle.entries.specs.inner.EntryFrom.{unitsFrom}
 use Rattle.entries.specs.declared.words.EntryHead.{EntryHead}
 use Rattle.decode.specs.declared.plan.Plan.{Plan}
@@ -50,7 +50,7 @@ use Rattle.decode.specs.declared.entry.Scored.{Scored}
 use Rattle.decoding.specs.Report.{lowEdge, highEdge, reportedIn, reportedUnits}
 use Rattle.decoding.specs.EntryOf.{missedTotal, missedUnits, totalOf, unitsFor, entryFor, entryBy, entryOf}
 use Rattle.decode.specs.Places.{Placeable, ReportedAll, missedAt, Holds}
-use Rattle.decode.specs.Plans.{PlanOf, LentWords}
+use Rattle.decode.specs.Plans.{PlanOf, PreparedWords}
 use Rattle.decode.specs.Scored.{MissedEntry, ScoredAs}
 use Rattle.decoding.proofs.Demands.{answered}
 use Rattle.decoding.proofs.Units.{length-reportedIn}
@@ -66,11 +66,13 @@ module _ {bytes : List ℕ} {at : Layout} (h : Laid bytes at) where
   abbrev phrase : Phrase
   phrase = phraseOf bytes
 
-  rows-below : (which : Which) → stageOf which phrase .firstRow + length (stageOf which phrase .anchors) ≤ noRow
+  rows-below : (which : Which) → stageOf which phrase .firstRow + length (stageOf which phrase .anchors) ≤ absent
   rows-below which = omega (arith, rows-fit h which)
 
-  found-in : (which : Which) (strictness : Strictness) (columns : List ℕ) {words : List ℕ} {figures : List Float} {units : Units} {path : Path}
-      → Prepared phrase (stageOf which phrase) (lowEdge (phrase .speech)) (highEdge (phrase .speech)) words figures → UnitsAre units (unitsOf path) → length (unitsOf path) ≤ mostUnits
+  found-in : (which : Which) (strictness : Strictness)
+      (columns : List ℕ) {words : List ℕ} {figures : List Float} {units : Units} {path : Path}
+      → Prepared phrase (stageOf which phrase) (lowEdge (phrase .speech)) (highEdge (phrase .speech)) words figures
+      → UnitsAre units (unitsOf path) → length (unitsOf path) ≤ mostUnits
       → Admitted (problemOf phrase (stageOf which phrase) strictness columns) path
       → Reporting.Found phrase (stageOf which phrase) strictness words units (unitsOf path)
   found-in which strictness columns {figures = figures} prepared are few admitted =
@@ -85,13 +87,14 @@ module _ {bytes : List ℕ} {at : Layout} (h : Laid bytes at) where
         up = anchors-fit h which .ascending;
         boundsUp = boundaries-fit h which .ascending;
         rows = λ i below.
-            subst (λ (n : ℕ). n < noRow) (tabled .rows i below)
+            subst (λ (n : ℕ). n < absent) (tabled .rows i below)
             (readable phrase stage _ tabled (anchors-fit h which .ascending) (boundaries-fit h which .ascending) (few-boundaries h which) strictness
-            noRow (omega arith) (rows-below which) .rows i below);
+            absent (omega arith) (rows-below which) .rows i below);
         ok = each-ok phrase stage strictness columns (units-in-order admitted);
       }
 
-  module _ {plan : Plan} (planned : PlanOf phrase plan) {words addedWords : List ℕ} (worded : LentWords phrase words addedWords) {candidate : ℕ} (below : candidate < length (phrase .candidates)) where
+  module _ {plan : Plan} (planned : PlanOf phrase plan) {words addedWords : List ℕ}
+      (worded : PreparedWords phrase words addedWords) {candidate : ℕ} (below : candidate < length (phrase .candidates)) where
     abbrev chosenOne : Candidate
     chosenOne = candidateOf phrase candidate
 
@@ -105,14 +108,17 @@ module _ {bytes : List ℕ} {at : Layout} (h : Laid bytes at) where
     few-units = candidate-units h below
 
     demanded : D.Demanded phrase columns (chosen phrase columns)
-    demanded = answered bytes (h .accepted) (subst (λ (x : Layout). CandidateFit (limitsOf bytes .units) (x .scores .count) chosenOne) (h .layout) fits)
+    demanded =
+        answered bytes (h .accepted)
+        (subst (λ (x : Layout). CandidateFit (limitsOf bytes .units) (x .scores .count) chosenOne) (h .layout) fits)
 
     module _ (searched : Searched) (says : Says (chosen phrase columns) searched) where
       module _ {pass : Pass} {total : Float} (e : searched .answer ≡ Found pass total) where
         abbrev it : FoundPath (chosen phrase columns) searched pass total
         it = says-found (chosen phrase columns) says e
 
-        found-there : {a : Answer} → D.Demanded phrase columns a → (path : Path) → a ≡ D.found pass path total → D.Found phrase columns pass path total
+        found-there : {a : Answer} → D.Demanded phrase columns a → (path : Path) → a ≡ D.found pass path total
+            → D.Found phrase columns pass path total
         found-there {a} d path is = go (subst (D.Demanded phrase columns) is d)
           where
             go : D.Demanded phrase columns (D.found pass path total) → D.Found phrase columns pass path total
@@ -127,22 +133,27 @@ module _ {bytes : List ℕ} {at : Layout} (h : Laid bytes at) where
         few : length (unitsOf (it .path)) ≤ mostUnits
         few = omega (arith, units-few, few-units)
 
-        path-found : Reporting.Found phrase (passStage phrase pass) (passStrictness pass) (ofPass words addedWords pass) (searched .units) (unitsOf (it .path))
+        path-found : Reporting.Found phrase (passStage phrase pass) (passStrictness pass) (ofPass words addedWords pass) (searched .units)
+            (unitsOf (it .path))
         path-found = go pass (it .path) (it .units) few (shown .best .admitted) (shown .first)
           where
             go : (pass : Pass) (path : Path) → UnitsAre (searched .units) (unitsOf path) → length (unitsOf path) ≤ mostUnits
                 → Admitted (passProblem phrase pass columns) path → D.FirstOf phrase columns pass (inOrder phrase)
-                → Reporting.Found phrase (passStage phrase pass) (passStrictness pass) (ofPass words addedWords pass) (searched .units) (unitsOf path)
+                → Reporting.Found phrase (passStage phrase pass) (passStrictness pass) (ofPass words addedWords pass) (searched .units)
+                (unitsOf path)
             go NucleiStrict path are few admitted first = found-in Nuclei _ columns (worded .lent .nuclei) are few admitted
-            go CountStrict path are few admitted first = found-in Count _ columns (worded .lent .added (added-exists first tt)) are few admitted
-            go CountRelaxed path are few admitted first = found-in Count _ columns (worded .lent .added (added-exists first tt)) are few admitted
+            go CountStrict path are few admitted first =
+                found-in Count _ columns (worded .lent .added (added-exists first tt)) are few admitted
+            go CountRelaxed path are few admitted first =
+                found-in Count _ columns (worded .lent .added (added-exists first tt)) are few admitted
             go NucleiRelaxed path are few admitted first = found-in Nuclei _ columns (worded .lent .nuclei) are few admitted
 
         pub can-place : {own : List ℕ} {k : ℕ} → own ≡ ofPass words addedWords pass → k ≡ length columns → Placeable own (searched .units) k
         can-place s counted = coe 1 0 (i. Placeable (s i) (searched .units) ((counted ∙ sym units-few) i)) (Reporting.placeable path-found)
 
         module _ {own : List ℕ} {k id number : ℕ} {llr : Float} {units : Reported}
-            (s : own ≡ ofPass words addedWords pass) (counted : k ≡ length columns) (named : id ≡ chosenOne .id) (numbered : number ≡ passWord (searched .answer))
+            (s : own ≡ ofPass words addedWords pass) (counted : k ≡ length columns) (named : id ≡ chosenOne .id)
+            (numbered : number ≡ passWord (searched .answer))
             (clamped : ClampedLog total llr) (all : ReportedAll own (searched .units) k units) where
           holds : Holds (reportedIn phrase (passStage phrase pass) (unitsOf (it .path))) units
           holds =
@@ -155,12 +166,21 @@ module _ {bytes : List ℕ} {at : Layout} (h : Laid bytes at) where
               (counted ∙ sym units-few ∙ sym (length-reportedIn phrase (passStage phrase pass) (unitsOf (it .path))))
               ∙ held-units holds
 
-          pub scored-found : ScoredAs (limitsOf bytes .units) (entryOf phrase chosenOne) (record { head = record { id = id; llr = llr; pass = number; units = k }; units = units })
+          pub scored-found : ScoredAs (limitsOf bytes .units) (entryOf phrase chosenOne)
+              (record { head = record { id = id; llr = llr; pass = number; units = k }; units = units })
           unfolding entryBy entryFor
           scored-found =
-              coe 1 0 (i. ScoredAs (limitsOf bytes .units) (entryFor phrase chosenOne (it .is i)) (record { head = record { id = id; llr = llr; pass = number; units = k }; units = units }))
+              coe 1 0 (i. ScoredAs (limitsOf bytes .units) (entryFor phrase chosenOne (it .is i))
+              (record { head = record { id = id; llr = llr; pass = number; units = k }; units = units }))
               (record {
-                whole = λ i. record { id = named i; pass = (numbered ∙ ap passWord e) i; total = total; llr = clamped .value i; units = units-are i };
+                whole =
+                    λ i. record {
+                      id = named i;
+                      pass = (numbered ∙ ap passWord e) i;
+                      total = total;
+                      llr = clamped .value i;
+                      units = units-are i;
+                    };
                 number = finite-number _ (clamped .within .real .isFinite);
                 few = omega (arith, fits .fewUnits);
                 starts = holds .startsLong;
@@ -175,9 +195,17 @@ module _ {bytes : List ℕ} {at : Layout} (h : Laid bytes at) where
           → MissedEntry id k number (plan .costs) (plan .«lo_edge») r → ScoredAs (limitsOf bytes .units) (entryOf phrase chosenOne) r
       unfolding entryBy entryFor
       scored-missed a is totals spans {k} {id} {number} {r} counted named numbered missed =
-          coe 1 0 (i. ScoredAs (limitsOf bytes .units) (entryFor phrase chosenOne (is i)) (record { head = head i; units = (missed .units ∙ ap missedAt (planned .low)) i }))
+          coe 1 0 (i. ScoredAs (limitsOf bytes .units) (entryFor phrase chosenOne (is i))
+          (record { head = head i; units = (missed .units ∙ ap missedAt (planned .low)) i }))
           (record {
-            whole = λ i. record { id = chosenOne .id; pass = answerNumber a; total = totalOf phrase n a; llr = clampedLog (totalOf phrase n a); units = units-are i };
+            whole =
+                λ i. record {
+                  id = chosenOne .id;
+                  pass = answerNumber a;
+                  total = totalOf phrase n a;
+                  llr = clampedLog (totalOf phrase n a);
+                  units = units-are i;
+                };
             number = subst (λ (h : EntryHead). T (not (isNan (h .llr)))) head (missed .number);
             few = fits .fewUnits;
             starts = held .startsLong;
@@ -195,7 +223,9 @@ module _ {bytes : List ℕ} {at : Layout} (h : Laid bytes at) where
           held = missed-hold n (lowEdge (phrase .speech)) few-units
 
           units-are : unitsFrom (at-start .starts) (at-start .ends) (at-start .rows) n 0 ≡ unitsFor phrase n a
-          units-are = ap (λ (m : ℕ). unitsFrom (at-start .starts) (at-start .ends) (at-start .rows) m 0) (sym (length-replicate n _)) ∙ held-units held ∙ sym spans
+          units-are =
+              ap (λ (m : ℕ). unitsFrom (at-start .starts) (at-start .ends) (at-start .rows) m 0) (sym (length-replicate n _))
+              ∙ held-units held ∙ sym spans
 
           llr : clampedLog (unanchoredUnits (plan .costs) k) ≡ clampedLog (totalOf phrase n a)
           llr = (λ i. clampedLog (unanchoredUnits (planned .costs i) (counted i))) ∙ ap clampedLog (sym totals)
@@ -203,12 +233,15 @@ module _ {bytes : List ℕ} {at : Layout} (h : Laid bytes at) where
           head : r .head ≡ record { id = chosenOne .id; llr = clampedLog (totalOf phrase n a); pass = answerNumber a; units = n }
           head = missed .head ∙ (λ i. record { id = named i; llr = llr i; pass = numbered i; units = counted i })
 
-      pub scored-none : searched .answer ≡ None → {k id number : ℕ} {r : Scored} → k ≡ length columns → id ≡ chosenOne .id → number ≡ passWord (searched .answer)
+      pub scored-none : searched .answer ≡ None → {k id number : ℕ} {r : Scored} → k ≡ length columns → id ≡ chosenOne .id
+          → number ≡ passWord (searched .answer)
           → MissedEntry id k number (plan .costs) (plan .«lo_edge») r → ScoredAs (limitsOf bytes .units) (entryOf phrase chosenOne) r
       scored-none e counted named numbered missed =
           scored-missed D.none (says-none (chosen phrase columns) searched says e) refl refl counted named (numbered ∙ ap passWord e) missed
 
-      pub scored-unvoiced : searched .answer ≡ Unvoiced → {k id number : ℕ} {r : Scored} → k ≡ length columns → id ≡ chosenOne .id → number ≡ passWord (searched .answer)
+      pub scored-unvoiced : searched .answer ≡ Unvoiced → {k id number : ℕ} {r : Scored} → k ≡ length columns → id ≡ chosenOne .id
+          → number ≡ passWord (searched .answer)
           → MissedEntry id k number (plan .costs) (plan .«lo_edge») r → ScoredAs (limitsOf bytes .units) (entryOf phrase chosenOne) r
       scored-unvoiced e counted named numbered missed =
-          scored-missed D.unvoiced (says-unvoiced (chosen phrase columns) searched says e) refl refl counted named (numbered ∙ ap passWord e) missed
+          scored-missed D.unvoiced (says-unvoiced (chosen phrase columns) searched says e) refl refl counted named
+          (numbered ∙ ap passWord e) missed

@@ -21,7 +21,8 @@ ghost use Rattle.decode.specs.Calls.{Enough, Leaves};
 // Decodes an accepted record into buffers that are long enough.
 fn decode_accepted(record: &[u8], at: Layout, best: &mut [f64], back: &mut [u32], out: &mut [u32])
     requires { ⌜ Laid (now «record») at × Enough (now «record») (length (now best)) (length (now back)) (length (now out)) ⌝ }
-    ensures { λ _. ⌜ Leaves (now («record» .entry)) (now (best .entry)) (now (back .entry)) (now (out .entry)) (now (best .exit)) (now (back .exit)) (now (out .exit)) ⌝ }
+    ensures { λ _. ⌜ Leaves (now («record» .entry)) (now (best .entry)) (now (back .entry)) (now (out .entry)) (now (best .exit))
+        (now (back .exit)) (now (out .exit)) ⌝ }
 {
     let limits = limits_of(at.edition);
     clear(best, back, limits.work_cells());
@@ -50,7 +51,8 @@ fn decode_accepted(record: &[u8], at: Layout, best: &mut [f64], back: &mut [u32]
 
 // Decodes the record into `out`, one entry for each candidate, best first. Nothing is written before every check is passed.
 pub fn decode(record: &[u8], best: &mut [f64], back: &mut [u32], out: &mut [u32]) -> Decoded
-    ensures { λ r. ⌜ Decodes (now («record» .entry)) (now (best .entry)) (now (back .entry)) (now (out .entry)) r (now (best .exit)) (now (back .exit)) (now (out .exit)) ⌝ }
+    ensures { λ r. ⌜ Decodes (now («record» .entry)) (now (best .entry)) (now (back .entry)) (now (out .entry)) r (now (best .exit))
+        (now (back .exit)) (now (out .exit)) ⌝ }
 {
     let checked = check_areas(record, best.len(), back.len(), out.len());
     match checked {

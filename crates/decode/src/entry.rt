@@ -36,7 +36,7 @@ ghost use Rattle.record.specs.Meaning.{phraseOf};
 ghost use Rattle.record.specs.inner.Accepted.{Laid};
 ghost use Rattle.record.specs.inner.Reading.{candidateOf};
 ghost use Rattle.decoding.specs.EntryOf.{entryOf, entriesOf};
-ghost use Rattle.decode.specs.Plans.{PlanOf, LentWords, Readied};
+ghost use Rattle.decode.specs.Plans.{PlanOf, PreparedWords, DecodeInputs};
 ghost use Rattle.decode.specs.Scored.{MissedEntry, ScoredAs};
 
 // An entry, not yet at its rank. Its units are the first of `units`.
@@ -86,8 +86,9 @@ fn score_candidate<'a>(
     requires { ⌜ candidate < length (phraseOf (now bytes) .candidates) ⌝ }
     requires { ⌜ PlanOf (phraseOf (now bytes)) plan ⌝ }
     requires { ⌜ Says (chosen (phraseOf (now bytes)) (columnsOf (now bytes) candidate)) searched ⌝ }
-    requires { ⌜ LentWords (phraseOf (now bytes)) (now words) (now «added_words») ⌝ }
-    ensures { λ r. ⌜ ScoredAs (limitsOf (now (bytes .entry)) .units) (entryOf (phraseOf (now (bytes .entry))) (candidateOf (phraseOf (now (bytes .entry))) candidate)) r ⌝ }
+    requires { ⌜ PreparedWords (phraseOf (now bytes)) (now words) (now «added_words») ⌝ }
+    ensures { λ r. ⌜ ScoredAs (limitsOf (now (bytes .entry)) .units)
+        (entryOf (phraseOf (now (bytes .entry))) (candidateOf (phraseOf (now (bytes .entry))) candidate)) r ⌝ }
 {
     let id = read::id(bytes, at, candidate);
     let k = read::units(bytes, at, candidate);
@@ -137,9 +138,13 @@ fn put_candidate<'a>(
     number: usize,
     out: &mut [u32],
 )
-    requires { ⌜ Readied (now bytes) at plan (now words) (now figures) (now «added_words») (now «added_figures») (now best) (now back) ⌝ }
-    requires { ⌜ (number < length (phraseOf (now bytes) .candidates)) × ((number + 1) * entryWords (limitsOf (now bytes) .units) ≤ length (now out)) ⌝ }
-    ensures { λ _. ⌜ Inserted (limitsOf (now (bytes .entry)) .units) number (entryOf (phraseOf (now (bytes .entry))) (candidateOf (phraseOf (now (bytes .entry))) number)) (now (out .entry)) (now (out .exit)) ⌝ }
+    requires { ⌜ DecodeInputs (now bytes) at plan (now words) (now figures) (now «added_words») (now «added_figures») (now best)
+        (now back) ⌝ }
+    requires { ⌜ (number < length (phraseOf (now bytes) .candidates))
+        × ((number + 1) * entryWords (limitsOf (now bytes) .units) ≤ length (now out)) ⌝ }
+    ensures { λ _. ⌜ Inserted (limitsOf (now (bytes .entry)) .units) number
+        (entryOf (phraseOf (now (bytes .entry))) (candidateOf (phraseOf (now (bytes .entry))) number)) (now (out .entry))
+        (now (out .exit)) ⌝ }
     ensures { λ _. ⌜ (now (best .exit) ≡ now (best .entry)) × (now (back .exit) ≡ now (back .entry)) ⌝ }
 {
     let costs = plan.costs;
@@ -176,9 +181,12 @@ pub fn put_candidates<'a>(
     added_figures: &'a [f64],
     out: &mut [u32],
 )
-    requires { ⌜ Readied (now bytes) at plan (now words) (now figures) (now «added_words») (now «added_figures») (now best) (now back) ⌝ }
+    requires { ⌜ DecodeInputs (now bytes) at plan (now words) (now figures) (now «added_words») (now «added_figures») (now best)
+        (now back) ⌝ }
     requires { ⌜ length (phraseOf (now bytes) .candidates) * entryWords (limitsOf (now bytes) .units) ≤ length (now out) ⌝ }
-    ensures { λ _. ⌜ now (out .exit) ≡ allWords (limitsOf (now (bytes .entry)) .units) (ranked (entriesOf (phraseOf (now (bytes .entry))))) ++ drop (length (phraseOf (now (bytes .entry)) .candidates) * entryWords (limitsOf (now (bytes .entry)) .units)) (now (out .entry)) ⌝ }
+    ensures { λ _. ⌜ now (out .exit) ≡ allWords (limitsOf (now (bytes .entry)) .units) (ranked (entriesOf (phraseOf (now (bytes .entry)))))
+        ++ drop (length (phraseOf (now (bytes .entry)) .candidates) * entryWords (limitsOf (now (bytes .entry)) .units))
+        (now (out .entry)) ⌝ }
     ensures { λ _. ⌜ (now (best .exit) ≡ now (best .entry)) × (now (back .exit) ≡ now (back .entry)) ⌝ }
 {
     let count = at.candidates.count;

@@ -21,9 +21,10 @@ pub fn lay_added(
 )
     requires { ⌜ Laid (now bytes) at ⌝ }
     requires { ⌜ (length (now words) ≡ wordsLong) × (length (now figures) ≡ figuresLong) ⌝ }
-    ensures { λ _. ⌜ AddedLaid (phraseOf (now (bytes .entry))) «lo_edge» «hi_edge» (now (words .entry)) (now (figures .entry)) (now (words .exit)) (now (figures .exit)) ⌝ }
+    ensures { λ _. ⌜ AddedLaid (phraseOf (now (bytes .entry))) «lo_edge» «hi_edge» (now (words .entry)) (now (figures .entry))
+        (now (words .exit)) (now (figures .exit)) ⌝ }
 {
-    if at.anchors.count != 0 {
+    if at.added_anchors.count != 0 {
         lay_stage(bytes, at, Which::Count, lo_edge, hi_edge, words, figures);
     }
 }

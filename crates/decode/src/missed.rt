@@ -1,8 +1,8 @@
 // The units reported where there is no path, after `Decoder::no_path` of closed.rs.
 
 use crate::report::Reported;
-use clip::clip::NO_ROW;
 use limits::capacity::MOST_UNITS;
+use limits::common::ABSENT;
 ghost use mathlib.Core.Path.{_≡_};
 ghost use Rattle.decode.specs.Places.{missedAt};
 
@@ -12,6 +12,6 @@ pub fn missed_units(at: u32) -> Reported
 {
     let starts = [at; MOST_UNITS];
     let ends = [at; MOST_UNITS];
-    let rows = [NO_ROW; MOST_UNITS];
+    let rows = [ABSENT; MOST_UNITS];
     Reported { starts, ends, rows }
 }

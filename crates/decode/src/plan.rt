@@ -62,7 +62,7 @@ fn runs_of(bytes: &[u8], at: Layout, edges: Edges) -> Runs
     Runs {
         spoken: spoken(edges),
         voiced,
-        added: at.anchors.count != 0,
+        added: at.added_anchors.count != 0,
     }
 }
 

@@ -1,8 +1,8 @@
 // The units reported for a path, after `Decoder::score` of closed.rs.
 
-use clip::clip::NO_ROW;
 use clip::clip::clip_unanchored;
 use limits::capacity::MOST_UNITS;
+use limits::common::ABSENT;
 use rows::trace::Units;
 use stages::lists::MIDDLE;
 use stages::lists::ROW;
@@ -44,7 +44,7 @@ fn place_unit(words: &[u32], i: usize, j: usize) -> PlacedUnit
         PlacedUnit {
             start: words[i],
             end: words[j],
-            row: NO_ROW,
+            row: ABSENT,
         }
     }
 }

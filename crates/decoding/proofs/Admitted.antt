@@ -35,5 +35,6 @@ module _ (phrase : Phrase) (stage : Stage) (strictness : Strictness) (columns : 
       (λ earlier. subst (UnitOk phrase stage strictness) (sym (List·getD-append us (unit ∷ []) noBounds i earlier)) (each-ok o i earlier))
       (λ later.
       let e : i ≡ length us = omega (arith, length-append us (unit ∷ [])) in
-      subst (UnitOk phrase stage strictness) (sym (ap (λ (n : ℕ). getD (us ++ (unit ∷ [])) n noBounds) e ∙ getD-append-seam us unit [] noBounds))
+      subst (UnitOk phrase stage strictness)
+      (sym (ap (λ (n : ℕ). getD (us ++ (unit ∷ [])) n noBounds) e ∙ getD-append-seam us unit [] noBounds))
       (record { forward = less; inside = below; admitted = ok }))

@@ -60,15 +60,19 @@ placed-bare phrase stage unit (anchor ∷ more) = refl
 all-placed-bare : (phrase : Phrase) (stage : Stage) (units : List Bounds)
     → map (placedUnit phrase stage) units ≡ map (placedUnit (bare phrase) (bareStage stage)) units
 all-placed-bare phrase stage [] = refl
-all-placed-bare phrase stage (unit ∷ units) = ap₂ _∷_ (placed-bare phrase stage unit (heldBy phrase stage unit)) (all-placed-bare phrase stage units)
+all-placed-bare phrase stage (unit ∷ units) =
+    ap₂ _∷_ (placed-bare phrase stage unit (heldBy phrase stage unit)) (all-placed-bare phrase stage units)
 
-reported-bare : (phrase : Phrase) (stage : Stage) (units : List Bounds) → reportedIn phrase stage units ≡ reportedIn (bare phrase) (bareStage stage) units
+reported-bare : (phrase : Phrase) (stage : Stage) (units : List Bounds)
+    → reportedIn phrase stage units ≡ reportedIn (bare phrase) (bareStage stage) units
 unfolding reportedIn
 reported-bare phrase stage units =
-    ap (λ (placed : List Placed). zipWith reportedUnit (map (heldBy phrase stage) units) (reported placed)) (all-placed-bare phrase stage units)
+    ap (λ (placed : List Placed). zipWith reportedUnit (map (heldBy phrase stage) units) (reported placed))
+    (all-placed-bare phrase stage units)
 
 module _ {phrase phrase′ : Phrase} {columns columns′ : List ℕ} (alike : ReadsAlike phrase columns phrase′ columns′) where
-  reported-in : {stage stage′ : Stage} → SameLists stage stage′ → (units : List Bounds) → reportedIn phrase stage units ≡ reportedIn phrase′ stage′ units
+  reported-in : {stage stage′ : Stage} → SameLists stage stage′ → (units : List Bounds)
+      → reportedIn phrase stage units ≡ reportedIn phrase′ stage′ units
   reported-in {stage} {stage′} lists units =
       reported-bare phrase stage units
       ∙ ap₂ (λ (p : Phrase) (s : Stage). reportedIn p s units) (same-bare alike) (same-bareStage lists)
@@ -84,12 +88,14 @@ module _ {phrase phrase′ : Phrase} {columns columns′ : List ℕ} (alike : Re
 
 module _ (candidate candidate′ : Candidate) {phrase phrase′ : Phrase}
     (alike : ReadsAlike phrase (candidate .columns) phrase′ (candidate′ .columns)) where
-  same-total : (answer : Answer) → totalOf phrase (length (candidate .columns)) answer ≡ totalOf phrase′ (length (candidate′ .columns)) answer
+  same-total : (answer : Answer)
+      → totalOf phrase (length (candidate .columns)) answer ≡ totalOf phrase′ (length (candidate′ .columns)) answer
   same-total (found pass path total) = refl
   same-total none = ap₂ missedTotal (same-bare alike) (alike .unitCount)
   same-total unvoiced = ap₂ missedTotal (same-bare alike) (alike .unitCount)
 
-  same-units : (answer : Answer) → unitsFor phrase (length (candidate .columns)) answer ≡ unitsFor phrase′ (length (candidate′ .columns)) answer
+  same-units : (answer : Answer)
+      → unitsFor phrase (length (candidate .columns)) answer ≡ unitsFor phrase′ (length (candidate′ .columns)) answer
   same-units (found pass path total) = same-reported alike pass path
   same-units none = ap₂ missedUnits (same-bare alike) (alike .unitCount)
   same-units unvoiced = ap₂ missedUnits (same-bare alike) (alike .unitCount)
@@ -114,7 +120,8 @@ module _ (candidate candidate′ : Candidate) {phrase phrase′ : Phrase} (below
   same-but-id = same-by candidate candidate′ alike chosen (same-answer below alike)
 
   -- an entry that meets demand 3 for the one has its like for the other
-  pub meets-too : {entry : Entry} → Meets phrase candidate entry → (entry′ : Entry) × Meets phrase′ candidate′ entry′ × SameButId entry entry′
+  pub meets-too : {entry : Entry} → Meets phrase candidate entry → (entry′ : Entry) × Meets phrase′ candidate′ entry′
+      × SameButId entry entry′
   meets-too meets = (
     entryFor phrase′ candidate′ (meets .answer),
     record { answer = meets .answer; demanded = demanded-too below alike (meets .demanded); reported = refl },
@@ -139,7 +146,8 @@ pub data CandidatesAlike (phrase phrase′ : Phrase) : List Candidate → List C
       → CandidatesAlike phrase phrase′ others others′
       → CandidatesAlike phrase phrase′ (candidate ∷ others) (candidate′ ∷ others′)
 
-pub same-entries : {phrase phrase′ : Phrase} {candidates candidates′ : List Candidate} → RowsBelow phrase → CandidatesAlike phrase phrase′ candidates candidates′
+pub same-entries : {phrase phrase′ : Phrase} {candidates candidates′ : List Candidate} → RowsBelow phrase
+    → CandidatesAlike phrase phrase′ candidates candidates′
     → map (entryOf phrase) candidates ≡ map (entryOf phrase′) candidates′
 same-entries below all-alike = refl
 same-entries below (each-alike {candidate = candidate} {candidate′ = candidate′} ids alike others) =

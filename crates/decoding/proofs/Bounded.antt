@@ -14,7 +14,7 @@ use Rattle.limits.specs.declared.edition.Limits.{Limits}
 use Rattle.ieee.specs.inner.Value.{Within}
 use Rattle.ieee.proofs.Magnitude.{within-widens}
 use Rattle.phrase.specs.Phrase.{Stage, Candidate}
-use Rattle.limits.specs.Common.{shortestUnit, longestUnit}
+use Rattle.limits.specs.Common.{shortestUnit, longestUnit, largestFigure, largestCost}
 use Rattle.paths.specs.Passes.{nonEmpty}
 use Rattle.paths.specs.theory.Bounded.{Bounded, PhraseBounded, stepBound, Room}
 use Rattle.record.specs.Layout.{layoutOf, limitsOf}
@@ -25,18 +25,23 @@ use Rattle.decoding.specs.theory.Ranges.{rangesOf}
 use Rattle.record.proofs.Accepted.{fit}
 use Rattle.record.proofs.Reading.{nuclei-first, added-next}
 
+-- no step of a moderate edition counts more
+abbrev mostStep : ℕ
+mostStep = largestCost * mostCount + largestCost * mostAnchors + 2 * largestFigure
+
 -- however large the numbers of a moderate edition are, its sums are finite
 pub room : {l : Limits} → Moderate l → Room (rangesOf l)
 room {l} m =
-    let step : stepBound (rangesOf l) ≤ 1000 * mostCount + 1000 * mostAnchors + 2000000 = omega (arith, m .frames, m .nuclei) in
-    let steps = mul-le-mul {n₂ = mostBoundaries} {m₂ = 1000 * mostCount + 1000 * mostAnchors + 2000000} (m .boundaries) step in
+    let step : stepBound (rangesOf l) ≤ mostStep = omega (arith, m .frames, m .nuclei) in
+    let steps = mul-le-mul {n₂ = mostBoundaries} {m₂ = mostStep} (m .boundaries) step in
     record { frames = omega (arith, m .frames); nuclei = omega (arith, m .nuclei); sums = omega (arith, steps, m .frames, m .nuclei) }
 
 some-anchor : (frames : List ℕ) → T (nonEmpty frames) → 0 < length frames
 some-anchor (frame ∷ frames) t = omega arith
 
 -- a column of a candidate's is below the number of columns, also past its last unit, where 0 is read
-column-below : {most columns : ℕ} (c : Candidate) → 0 < columns → CandidateFit most columns c → (unit : ℕ) → getD (c .columns) unit 0 < columns
+column-below : {most columns : ℕ} (c : Candidate) → 0 < columns → CandidateFit most columns c → (unit : ℕ)
+    → getD (c .columns) unit 0 < columns
 column-below {columns = columns} c any fits unit = go (c .columns) (fits .below) unit
   where
     go : (cs : List ℕ) → ((j : ℕ) → j < length cs → getD cs j 0 < columns) → (j : ℕ) → getD cs j 0 < columns
@@ -55,7 +60,8 @@ module _ (bytes : List ℕ) (accepted : refusalOf bytes ≡ none) where
 
     stage-bounded : (stage : Stage) → length (stage .boundaries) ≤ limitsOf bytes .boundaries
         → stage .firstRow + length (stage .anchors) ≤ length (phraseOf bytes .nuclei .anchors) + length (phraseOf bytes .added .anchors)
-        → ((frames : ℕ) → shortestUnit ≤ frames → frames ≤ longestUnit → Within binary64 (stage .duration frames) (rangesOf (limitsOf bytes) .duration))
+        → ((frames : ℕ) → shortestUnit ≤ frames → frames ≤ longestUnit
+        → Within binary64 (stage .duration frames) (rangesOf (limitsOf bytes) .duration))
         → Bounded (rangesOf (limitsOf bytes)) (phraseOf bytes) stage (c .columns)
     stage-bounded stage few rows durations =
         let f = phrase-fit in

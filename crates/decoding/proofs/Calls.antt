@@ -12,7 +12,8 @@ use Rattle.laws.proofs.Choices.{neither-left, neither-right}
 use Rattle.limits.specs.Sizes.{entryWords, workCells}
 use Rattle.record.specs.Layout.{layoutOf, limitsOf}
 use Rattle.record.specs.Conditions.{shortDesk}
-use Rattle.record.specs.Refusals.{refusalOf, refusalWith, checkedWith}
+use Rattle.record.specs.Refusals.{refusalOf, refusalWith}
+use Rattle.record.specs.inner.Checks.{checkedWith}
 use Rattle.record.specs.Meaning.{phraseAt, phraseOf}
 use Rattle.record.specs.inner.Accepted.{Laid}
 use Rattle.record.specs.declared.layout.Layout.{Layout}
@@ -43,8 +44,11 @@ module _ (bytes : List ℕ) (best back out : ℕ) where
       go none e = e
       go (some q) e = absurd (Option·some-ne-none q (sym (refused-first bytes best back out q e) ∙ accepted))
 
-  long-enough : refusalWith bytes best back out ≡ none → shortDesk (limitsOf bytes) (layoutOf bytes .candidates .count) best back out ≡ false
-  long-enough accepted = go (shortDesk (limitsOf bytes) (layoutOf bytes .candidates .count) best back out) (sym (desk-last bytes best back out (own-rules accepted)) ∙ accepted)
+  long-enough : refusalWith bytes best back out ≡ none
+      → shortDesk (limitsOf bytes) (layoutOf bytes .candidates .count) best back out ≡ false
+  long-enough accepted =
+      go (shortDesk (limitsOf bytes) (layoutOf bytes .candidates .count) best back out)
+      (sym (desk-last bytes best back out (own-rules accepted)) ∙ accepted)
     where
       go : (short : Bool) → cond short (some Desk) none ≡ none → short ≡ false
       go true e = absurd (Option·some-ne-none Desk e)
@@ -67,5 +71,7 @@ module _ (bytes : List ℕ) (best back out : ℕ) where
         laid = record { accepted = own-rules (h .0); layout = h .1 };
         values = ltb-false best (workCells (limitsOf bytes)) (neither-left few-values few-marks cells);
         marks = ltb-false back (workCells (limitsOf bytes)) (neither-right few-values few-marks cells);
-        words = subst (λ (m : ℕ). m * entryWords (limitsOf bytes .units) ≤ out) (sym (candidates-counted bytes)) (ltb-false out (count * entryWords (limitsOf bytes .units)) (neither-right (few-values || few-marks) few-words long));
+        words =
+            subst (λ (m : ℕ). m * entryWords (limitsOf bytes .units) ≤ out) (sym (candidates-counted bytes))
+            (ltb-false out (count * entryWords (limitsOf bytes .units)) (neither-right (few-values || few-marks) few-words long));
       }

@@ -32,7 +32,8 @@ module _ (bytes : List ℕ) (best : List Float) (back out : List ℕ) where
 
   pub decodes-accepted :
       {best′ : List Float} {back′ out′ : List ℕ} (count : ℕ) → refusal ≡ none → count ≡ length (phraseOf bytes .candidates) →
-      out′ ≡ allWords (limitsOf bytes .units) (ranked (entriesOf (phraseOf bytes))) ++ drop (length (phraseOf bytes .candidates) * entryWords (limitsOf bytes .units)) out →
+      out′ ≡ allWords (limitsOf bytes .units) (ranked (entriesOf (phraseOf bytes)))
+      ++ drop (length (phraseOf bytes .candidates) * entryWords (limitsOf bytes .units)) out →
       best′ ≡ replicate (workCells (limitsOf bytes)) (ofBits binary64 0) ++ drop (workCells (limitsOf bytes)) best →
       back′ ≡ replicate (workCells (limitsOf bytes)) 0 ++ drop (workCells (limitsOf bytes)) back →
       Decodes bytes best back out (Entries count) best′ back′ out′
@@ -40,6 +41,7 @@ module _ (bytes : List ℕ) (best : List Float) (back out : List ℕ) where
       let own = own-rules bytes (length best) (length back) (length out) e in
       record {
         answered = ap accepted counted ∙ sym (ap (λ (o : Option Refusal). outcomeOf o (length (phraseOf bytes .candidates))) e);
-        accepts = λ fine. record { demands = demands bytes own; ranking = ranking bytes own; words = words; values = values; marks = marks };
+        accepts =
+            λ fine. record { demands = demands bytes own; ranking = ranking bytes own; words = words; values = values; marks = marks };
         refuses = λ q given. absurd (Option·none-ne-some q (sym e ∙ given));
       }

@@ -22,10 +22,12 @@ use Rattle.record.specs.Meaning.{phraseOf}
 use Rattle.record.specs.inner.Accepted.{CandidateFit}
 use Rattle.entries.specs.Entry.{Entry}
 use Rattle.entries.specs.Words.{allWords}
-use Rattle.entries.specs.inner.Placing.{Fit, All, Rankable}
+use Rattle.laws.specs.theory.Each.{Each, each-none, each-more}
+use Rattle.laws.proofs.Each.{each-follows, each-map}
+use Rattle.entries.specs.inner.Placing.{Fit}
 use Rattle.entries.specs.Ranking.{ranked, Ranked}
 use Rattle.entries.proofs.EntryWords.{length-allWords}
-use Rattle.entries.proofs.Ranks.{all-ranked, ranked-is}
+use Rattle.entries.proofs.Ranks.{each-ranked, ranked-is}
 use Rattle.entries.proofs.RankedLength.{length-ranked}
 use Rattle.decoding.specs.EntryOf.{entryFor, entryBy, entryOf, entriesOf}
 use Rattle.decoding.specs.theory.Ranges.{rangesOf}
@@ -40,7 +42,8 @@ each-candidate :
     (cs : List Candidate) → ((i : ℕ) (other : Candidate) → i < length cs → P (getD cs i other)) → Q cs
 each-candidate no-more more [] fits = no-more
 each-candidate {P = P} {Q = Q} no-more more (c ∷ cs) fits =
-    more c cs (fits zero c (omega arith)) (each-candidate {P = P} {Q = Q} no-more more cs (λ i other below. fits (suc i) other (omega arith)))
+    more c cs (fits zero c (omega arith))
+    (each-candidate {P = P} {Q = Q} no-more more cs (λ i other below. fits (suc i) other (omega arith)))
 
 module _ (bytes : List ℕ) (accepted : refusalOf bytes ≡ none) where
   abbrev Fits : Candidate → Type 0
@@ -58,31 +61,36 @@ module _ (bytes : List ℕ) (accepted : refusalOf bytes ≡ none) where
 
   pub demands : MeetsEach (phraseOf bytes) (phraseOf bytes .candidates) (entriesOf (phraseOf bytes))
   demands =
-      each-candidate {P = Fits} {Q = λ cs. MeetsEach (phraseOf bytes) cs (map (entryOf (phraseOf bytes)) cs)} all-met (λ c cs fits. each-met (met fits))
+      each-candidate {P = Fits} {Q = λ cs. MeetsEach (phraseOf bytes) cs (map (entryOf (phraseOf bytes)) cs)} all-met
+      (λ c cs fits. each-met (met fits))
       (phraseOf bytes .candidates) (phrase-fit bytes accepted .candidates)
 
   -- an entry's llr is a binary32 value and no NaN, and its units are at most as many as an entry has room for
   pub entry-fits : {c : Candidate} → Fits c → Fit (limitsOf bytes .units) (entryOf (phraseOf bytes) c)
   unfolding entryBy entryFor
   entry-fits {c} fits =
-      record { rankable = real-comparable (clampedLog-within _ .real); few = subst (λ (n : ℕ). n ≤ limitsOf bytes .units) (sym (length-units (answered fits))) (fits .fewUnits) }
+      record {
+        rankable = real-comparable (clampedLog-within _ .real);
+        few = subst (λ (n : ℕ). n ≤ limitsOf bytes .units) (sym (length-units (answered fits))) (fits .fewUnits);
+      }
 
-  pub entries-fit : All (Fit (limitsOf bytes .units)) (entriesOf (phraseOf bytes))
-  entries-fit =
-      each-candidate {P = Fits} {Q = λ cs. All (Fit (limitsOf bytes .units)) (map (entryOf (phraseOf bytes)) cs)} All.none (λ c cs fits. All.more (entry-fits fits))
+  pub candidates-fit : Each (λ c. Fit (limitsOf bytes .units) (entryOf (phraseOf bytes) c)) (phraseOf bytes .candidates)
+  candidates-fit =
+      each-candidate {P = Fits} {Q = Each (λ c. Fit (limitsOf bytes .units) (entryOf (phraseOf bytes) c))} each-none
+      (λ c cs fits. each-more (entry-fits fits))
       (phraseOf bytes .candidates) (phrase-fit bytes accepted .candidates)
 
+  pub entries-fit : Each (Fit (limitsOf bytes .units)) (entriesOf (phraseOf bytes))
+  entries-fit = each-map (entryOf (phraseOf bytes)) candidates-fit
+
   pub ranking : Ranked (entriesOf (phraseOf bytes)) (ranked (entriesOf (phraseOf bytes)))
-  ranking = ranked-is (rankable entries-fit)
-    where
-      rankable : {es : List Entry} → All (Fit (limitsOf bytes .units)) es → All Rankable es
-      rankable All.none = All.none
-      rankable (All.more fits others) = All.more (fits .rankable) (rankable others)
+  ranking = ranked-is (each-follows (λ entry fits. fits .rankable) entries-fit)
 
   -- "Words past M × 52 are untouched": the words of the entries are M × 52
-  pub words-long : length (allWords (limitsOf bytes .units) (ranked (entriesOf (phraseOf bytes)))) ≡ length (phraseOf bytes .candidates) * entryWords (limitsOf bytes .units)
+  pub words-long : length (allWords (limitsOf bytes .units) (ranked (entriesOf (phraseOf bytes))))
+      ≡ length (phraseOf bytes .candidates) * entryWords (limitsOf bytes .units)
   words-long =
-      length-allWords (limitsOf bytes .units) (all-ranked (Fit (limitsOf bytes .units)) entries-fit)
+      length-allWords (limitsOf bytes .units) (each-ranked (Fit (limitsOf bytes .units)) entries-fit)
       ∙ ap (λ (n : ℕ). n * entryWords (limitsOf bytes .units))
       (length-ranked (entriesOf (phraseOf bytes)) ∙ length-map (phraseOf bytes .candidates) (entryOf (phraseOf bytes)))
 

@@ -30,7 +30,8 @@ abbrev pub nought : Float
 nought = fin false 0 (pos 0)
 
 abbrev pub stageOf : List ℕ → ℕ → List ℕ → Stage
-stageOf anchors firstRow boundaries = record { anchors = anchors; firstRow = firstRow; boundaries = boundaries; duration = λ frames. nought }
+stageOf anchors firstRow boundaries =
+    record { anchors = anchors; firstRow = firstRow; boundaries = boundaries; duration = λ frames. nought }
 
 abbrev pub candidate : Candidate
 candidate = record { id = 1; columns = 0 ∷ [] }
@@ -87,6 +88,7 @@ unfolding workedEntry
 no-nucleus = refl
 
 -- 3 × −(2^24 − 1) / 2^10 takes 26 digits, of which an f32 keeps 24.
-f32-product : missedTotal (plainPhrase silent (fin true 16777215 (negsuc 9)) 10 (stageOf [] 0 []) (stageOf [] 0 [])) 3 ≡ fin true 12582911 (negsuc 7)
+f32-product : missedTotal (plainPhrase silent (fin true 16777215 (negsuc 9)) 10 (stageOf [] 0 []) (stageOf [] 0 [])) 3
+    ≡ fin true 12582911 (negsuc 7)
 unfolding mul ofInt
 f32-product = refl

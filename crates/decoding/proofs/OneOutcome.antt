@@ -54,21 +54,34 @@ pub record Same (answer answer′ : Decoded) (best best′ : List Float) (back b
 
 pub one-outcome :
     (bytes : List ℕ) (best : List Float) (back out : List ℕ) {a₁ a₂ : Decoded} {best₁ best₂ : List Float} {back₁ back₂ out₁ out₂ : List ℕ} →
-    Decodes bytes best back out a₁ best₁ back₁ out₁ → Decodes bytes best back out a₂ best₂ back₂ out₂ → Same a₁ a₂ best₁ best₂ back₁ back₂ out₁ out₂
-one-outcome bytes best back out {a₁} {a₂} {best₁} {best₂} {back₁} {back₂} {out₁} {out₂} one two = go (refusalWith bytes (length best) (length back) (length out)) refl
+    Decodes bytes best back out a₁ best₁ back₁ out₁ → Decodes bytes best back out a₂ best₂ back₂ out₂
+    → Same a₁ a₂ best₁ best₂ back₁ back₂ out₁ out₂
+one-outcome bytes best back out {a₁} {a₂} {best₁} {best₂} {back₁} {back₂} {out₁} {out₂} one two =
+    go (refusalWith bytes (length best) (length back) (length out)) refl
   where
     answers : a₁ ≡ a₂
     answers = sym (given-outcome a₁) ∙ ap given (one .answered ∙ sym (two .answered)) ∙ given-outcome a₂
 
-    go : (o : Option Refusal) → refusalWith bytes (length best) (length back) (length out) ≡ o → Same a₁ a₂ best₁ best₂ back₁ back₂ out₁ out₂
+    go : (o : Option Refusal) → refusalWith bytes (length best) (length back) (length out) ≡ o
+        → Same a₁ a₂ best₁ best₂ back₁ back₂ out₁ out₂
     go none e =
         let w = one .accepts e in
         let v = two .accepts e in
-        record { answers = answers; values = w .values ∙ sym (v .values); marks = w .marks ∙ sym (v .marks); words = w .words ∙ sym (v .words) }
+        record {
+          answers = answers;
+          values = w .values ∙ sym (v .values);
+          marks = w .marks ∙ sym (v .marks);
+          words = w .words ∙ sym (v .words);
+        }
     go (some q) e =
         let w = one .refuses q e in
         let v = two .refuses q e in
-        record { answers = answers; values = w .values ∙ sym (v .values); marks = w .marks ∙ sym (v .marks); words = w .words ∙ sym (v .words) }
+        record {
+          answers = answers;
+          values = w .values ∙ sym (v .values);
+          marks = w .marks ∙ sym (v .marks);
+          words = w .words ∙ sym (v .words);
+        }
 
 pub some-outcome :
     (bytes : List ℕ) (best : List Float) (back out : List ℕ) →
@@ -96,5 +109,6 @@ exactly-one bytes best back out =
     let there = some-outcome bytes best back out in
     record {
       some-outcome = ((there .0, there .1, there .2, there .3), there .4);
-      one-outcome = λ v w p q. let same = one-outcome bytes best back out p q in together (same .answers) (same .values) (same .marks) (same .words);
+      one-outcome =
+          λ v w p q. let same = one-outcome bytes best back out p q in together (same .answers) (same .values) (same .marks) (same .words);
     }

@@ -34,7 +34,8 @@ length-zip held (unit ∷ units) (span ∷ spans) e = ap suc (length-zip held un
 pub length-reportedIn : (phrase : Phrase) (stage : Stage) (units : List Bounds) → length (reportedIn phrase stage units) ≡ length units
 unfolding reportedIn
 length-reportedIn phrase stage units =
-    length-zip (heldBy phrase stage) units _ (length-reported (map (placedUnit phrase stage) units) ∙ length-map units (placedUnit phrase stage))
+    length-zip (heldBy phrase stage) units _
+    (length-reported (map (placedUnit phrase stage) units) ∙ length-map units (placedUnit phrase stage))
 
 pub length-units : {phrase : Phrase} {columns : List ℕ} {answer : Answer} → Demanded phrase columns answer
     → length (unitsFor phrase (length columns) answer) ≡ length columns

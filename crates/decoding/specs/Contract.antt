@@ -51,7 +51,8 @@ pub data MeetsEach (phrase : Phrase) : List Candidate → List Entry → Type 0 
 
 -- The numbers of the phrase's edition say how long an entry and a work area are. "Words past M × 52 are untouched. Work areas, the first
 -- 1,088 f64 and 1,088 u32 lent, end as all-zero bits; cells beyond are untouched."
-pub record Written (l : Limits) (phrase : Phrase) (best : List Float) (back out : List ℕ) (best′ : List Float) (back′ out′ : List ℕ) : Type 0 where
+pub record Written (l : Limits) (phrase : Phrase) (best : List Float) (back out : List ℕ) (best′ : List Float) (back′ out′ : List ℕ) :
+    Type 0 where
   pub demands : MeetsEach phrase (phrase .candidates) (entriesOf phrase)
   pub ranking : Ranked (entriesOf phrase) (ranked (entriesOf phrase))
   pub words : out′ ≡ allWords (l .units) (ranked (entriesOf phrase)) ++ drop (length (phrase .candidates) * entryWords (l .units)) out
@@ -69,7 +70,13 @@ pub record Untouched (best : List Float) (back out : List ℕ) (best′ : List F
 -- ---- every call
 
 -- A call lends the record's bytes, two work areas and the output; the primed lists are what it leaves in them.
-pub record Decodes (bytes : List ℕ) (best : List Float) (back out : List ℕ) (answer : Decoded) (best′ : List Float) (back′ out′ : List ℕ) : Type 0 where
-  pub answered : outcome answer ≡ outcomeOf (refusalWith bytes (length best) (length back) (length out)) (length (phraseOf bytes .candidates))
-  pub accepts : refusalWith bytes (length best) (length back) (length out) ≡ none → Written (limitsOf bytes) (phraseOf bytes) best back out best′ back′ out′
-  pub refuses : (refusal : Refusal) → refusalWith bytes (length best) (length back) (length out) ≡ some refusal → Untouched best back out best′ back′ out′
+pub record Decodes (bytes : List ℕ) (best : List Float) (back out : List ℕ) (answer : Decoded) (best′ : List Float) (back′ out′ : List ℕ) :
+    Type 0 where
+  pub answered : outcome answer
+      ≡ outcomeOf (refusalWith bytes (length best) (length back) (length out)) (length (phraseOf bytes .candidates))
+  pub accepts :
+      refusalWith bytes (length best) (length back) (length out) ≡ none →
+      Written (limitsOf bytes) (phraseOf bytes) best back out best′ back′ out′
+  pub refuses :
+      (refusal : Refusal) → refusalWith bytes (length best) (length back) (length out) ≡ some refusal →
+      Untouched best back out best′ back′ out′

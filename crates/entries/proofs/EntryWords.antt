@@ -1,39 +1,24 @@
 -- How many words entries have, and how an entry's words come to stand in the output.
-use Prim.Native.Nat.{ℕ, zero, suc, _+_, _-_, _*_, _≤_, _<_}
+use Prim.Native.Nat.{ℕ, zero, suc, _+_, _-_, _*_, _≤_}
 use mathlib.Core.Path.{_≡_, refl, sym, ap, ap₂, _∙_}
 use mathlib.Core.List.{List, [], _∷_, _++_, append-assoc}
-use native.Mathlib.Nat.{add-zero, zero-add, zero-mul, suc-mul}
+use native.Mathlib.Nat.{zero-mul, suc-mul}
 use native.Mathlib.Omega.{arith}
-use lib.ListN.{length, getD, take, drop, replicate, length-append, length-replicate}
-use lib.Seq.{sets, sets-eq, ext-getD}
+use lib.ListN.{length, take, drop, replicate, length-append, length-replicate}
+use lib.Seq.{sets, sets-eq}
 use lib.Ieee.{binary32, toBits}
 use Rattle.entries.specs.Entry.{ReportedUnit, Entry}
 use Rattle.limits.specs.Sizes.{entryWords}
 use Rattle.entries.specs.Words.{unitWords, wordsOf, allWords}
-use Rattle.entries.specs.inner.EntryFrom.{unitAt, unitsFrom}
-use Rattle.entries.specs.inner.Placing.{Fit, All, none, more}
+use Rattle.entries.specs.inner.EntryFrom.{unitsFrom}
+use Rattle.laws.specs.theory.Each.{Each, each-none, each-more}
+use Rattle.entries.specs.inner.Placing.{Fit}
 use Rattle.laws.proofs.Stores.{sets-append}
 
 pub length-unitsFrom : (starts ends rows : List ℕ) (left i : ℕ) → length (unitsFrom starts ends rows left i) ≡ left
 unfolding unitsFrom
 length-unitsFrom starts ends rows zero i = refl
 length-unitsFrom starts ends rows (suc left) i = ap suc (length-unitsFrom starts ends rows left (suc i))
-
-pub unit-at : (starts ends rows : List ℕ) (left from i : ℕ) (other : ReportedUnit) → i < left → getD (unitsFrom starts ends rows left from) i other ≡ unitAt starts ends rows (from + i)
-unfolding unitsFrom
-unit-at starts ends rows (suc left) from zero other h = ap (unitAt starts ends rows) (sym (add-zero from))
-unit-at starts ends rows (suc left) from (suc i) other h =
-    unit-at starts ends rows left (suc from) i other (omega arith) ∙ ap (unitAt starts ends rows) (omega arith)
-unit-at starts ends rows zero from i other h = absurd (omega arith)
-
--- three lists hold a list of units, if they do so one by one
-pub units-are : (starts ends rows : List ℕ) (us : List ReportedUnit) (other : ReportedUnit)
-    → ((i : ℕ) → i < length us → unitAt starts ends rows i ≡ getD us i other)
-    → unitsFrom starts ends rows (length us) 0 ≡ us
-units-are starts ends rows us other each =
-    let long = length-unitsFrom starts ends rows (length us) 0 in
-    ext-getD other (unitsFrom starts ends rows (length us) 0) us long
-    (λ i h. unit-at starts ends rows (length us) 0 i other (omega arith) ∙ ap (unitAt starts ends rows) (zero-add i) ∙ each i (omega arith))
 
 length-unitWords : (us : List ReportedUnit) → length (unitWords us) ≡ 3 * length us
 unfolding unitWords
@@ -50,10 +35,10 @@ length-wordsOf most e few =
       length-replicate {A = ℕ} (3 * (most - length (e .units))) 0,
     )
 
-pub length-allWords : (most : ℕ) {es : List Entry} → All (Fit most) es → length (allWords most es) ≡ length es * entryWords most
+pub length-allWords : (most : ℕ) {es : List Entry} → Each (Fit most) es → length (allWords most es) ≡ length es * entryWords most
 unfolding allWords
-length-allWords most none = sym (zero-mul (entryWords most))
-length-allWords most (more {e} {es} fit fits) =
+length-allWords most each-none = sym (zero-mul (entryWords most))
+length-allWords most (each-more {x = e} {xs = es} fit fits) =
     length-append (wordsOf most e) (allWords most es)
     ∙ ap₂ _+_ (length-wordsOf most e (fit .few)) (length-allWords most fits)
     ∙ omega (arith, suc-mul (length es) (entryWords most))
@@ -61,10 +46,13 @@ length-allWords most (more {e} {es} fit fits) =
 pub allWords-append : (most : ℕ) (xs ys : List Entry) → allWords most (xs ++ ys) ≡ allWords most xs ++ allWords most ys
 unfolding allWords
 allWords-append most [] ys = refl
-allWords-append most (x ∷ xs) ys = ap (λ (l : List ℕ). wordsOf most x ++ l) (allWords-append most xs ys) ∙ sym (append-assoc (wordsOf most x) (allWords most xs) (allWords most ys))
+allWords-append most (x ∷ xs) ys =
+    ap (λ (l : List ℕ). wordsOf most x ++ l) (allWords-append most xs ys)
+    ∙ sym (append-assoc (wordsOf most x) (allWords most xs) (allWords most ys))
 
 -- The head, the units and the zeros that fill up, stored one after the other: the words of the entry.
-module _ (most : ℕ) (e : Entry) (l : List ℕ) (at k : ℕ) (counted : length (e .units) ≡ k) (few : k ≤ most) (within : at + entryWords most ≤ length l) where
+module _ (most : ℕ) (e : Entry) (l : List ℕ) (at k : ℕ) (counted : length (e .units) ≡ k) (few : k ≤ most)
+    (within : at + entryWords most ≤ length l) where
   pub stored : {headed listed filled : List ℕ}
       → headed ≡ sets l at (e .id ∷ toBits binary32 (e .llr) ∷ e .pass ∷ k ∷ [])
       → listed ≡ sets headed (at + 4) (unitWords (e .units))

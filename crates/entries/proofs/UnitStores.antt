@@ -10,13 +10,15 @@ use Rattle.entries.specs.Words.{unitWords}
 use Rattle.entries.specs.inner.EntryFrom.{unitsFrom}
 
 -- three stores, at the places as code counts them
-three : (l vs : List ℕ) (at next a b c : ℕ) → at + 3 ≡ next → sets l at (a ∷ b ∷ c ∷ vs) ≡ sets (set (set (set l at a) (at + 1) b) (at + 2) c) next vs
+three : (l vs : List ℕ) (at next a b c : ℕ) → at + 3 ≡ next
+    → sets l at (a ∷ b ∷ c ∷ vs) ≡ sets (set (set (set l at a) (at + 1) b) (at + 2) c) next vs
 three l vs at next a b c e = rw (← e, add-one, add-two, add-three)
 
 module _ (starts ends rows : List ℕ) where
   pub units-turn : (l : List ℕ) (at i count : ℕ) → i < count
       → sets l (at + 3 * i) (unitWords (unitsFrom starts ends rows (count - i) i))
-      ≡ sets (set (set (set l (at + 3 * i) (getD starts i 0)) (at + 3 * i + 1) (getD ends i 0)) (at + 3 * i + 2) (getD rows i 0)) (at + 3 * (i + 1))
+      ≡ sets (set (set (set l (at + 3 * i) (getD starts i 0)) (at + 3 * i + 1) (getD ends i 0)) (at + 3 * i + 2) (getD rows i 0))
+      (at + 3 * (i + 1))
       (unitWords (unitsFrom starts ends rows (count - (i + 1)) (i + 1)))
   unfolding unitWords unitsFrom
   units-turn l at i count h =
@@ -25,7 +27,8 @@ module _ (starts ends rows : List ℕ) where
       ap (λ (n : ℕ). sets l (at + 3 * i) (unitWords (unitsFrom starts ends rows n i))) one-less
       ∙ three l rest (at + 3 * i) (at + 3 * (i + 1)) (getD starts i 0) (getD ends i 0) (getD rows i 0) (omega arith)
       ∙ ap (λ (n : ℕ).
-      sets (set (set (set l (at + 3 * i) (getD starts i 0)) (at + 3 * i + 1) (getD ends i 0)) (at + 3 * i + 2) (getD rows i 0)) (at + 3 * (i + 1))
+      sets (set (set (set l (at + 3 * i) (getD starts i 0)) (at + 3 * i + 1) (getD ends i 0)) (at + 3 * i + 2) (getD rows i 0))
+      (at + 3 * (i + 1))
       (unitWords (unitsFrom starts ends rows (count - (i + 1)) n)))
       (sym (add-one i))
 

@@ -3,10 +3,7 @@ use Prim.Native.Nat.{ℕ}
 use mathlib.Core.List.{List}
 use lib.Ieee.{Float}
 
--- "each with its anchor's row or 4,294,967,295"
-abbrev pub noRow : ℕ
-noRow = 4294967295
-
+-- `row` as in "each with its anchor's row or 4,294,967,295", which is `absent` (limits/specs/Common.antt).
 pub record ReportedUnit : Type 0 where
   pub start : ℕ
   pub end : ℕ

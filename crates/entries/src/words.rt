@@ -24,7 +24,8 @@ pub struct EntryHead {
 
 fn put_head(out: &mut [u32], at: usize, head: EntryHead)
     requires { ⌜ (at + headWords ≤ length (now out)) × (head .units < 2 ^ 32) × T (not (isNan (head .llr))) ⌝ }
-    ensures { λ r. ⌜ now (out .exit) ≡ sets (now (out .entry)) at (head .id ∷ toBits binary32 (head .llr) ∷ head .pass ∷ head .units ∷ []) ⌝ }
+    ensures { λ r. ⌜ now (out .exit)
+        ≡ sets (now (out .entry)) at (head .id ∷ toBits binary32 (head .llr) ∷ head .pass ∷ head .units ∷ []) ⌝ }
 {
     let llr = head.llr;
     out[at] = head.id;
@@ -34,8 +35,10 @@ fn put_head(out: &mut [u32], at: usize, head: EntryHead)
 }
 
 fn put_units(out: &mut [u32], at: usize, count: usize, starts: &[u32], ends: &[u32], rows: &[u32])
-    requires { ⌜ (at + 3 * count ≤ length (now out)) × (count ≤ length (now starts)) × (count ≤ length (now ends)) × (count ≤ length (now rows)) ⌝ }
-    ensures { λ r. ⌜ now (out .exit) ≡ sets (now (out .entry)) at (unitWords (unitsFrom (now (starts .entry)) (now (ends .entry)) (now (rows .entry)) count 0)) ⌝ }
+    requires { ⌜ (at + 3 * count ≤ length (now out)) × (count ≤ length (now starts)) × (count ≤ length (now ends))
+        × (count ≤ length (now rows)) ⌝ }
+    ensures { λ r. ⌜ now (out .exit)
+        ≡ sets (now (out .entry)) at (unitWords (unitsFrom (now (starts .entry)) (now (ends .entry)) (now (rows .entry)) count 0)) ⌝ }
 {
     let mut i = 0;
     while i < count {
@@ -70,7 +73,10 @@ pub fn put_entry(
 )
     requires { ⌜ at + entryWords most ≤ length (now out) ⌝ }
     requires { ⌜ Writable most head (now starts) (now ends) (now rows) ⌝ }
-    ensures { λ r. ⌜ ((total : Float) → now (out .exit) ≡ take at (now (out .entry)) ++ wordsOf most (entryFrom head (now (starts .entry)) (now (ends .entry)) (now (rows .entry)) total) ++ drop (at + entryWords most) (now (out .entry))) ⌝ }
+    ensures { λ r. ⌜ ((total : Float)
+        → now (out .exit) ≡ take at (now (out .entry))
+        ++ wordsOf most (entryFrom head (now (starts .entry)) (now (ends .entry)) (now (rows .entry)) total)
+        ++ drop (at + entryWords most) (now (out .entry))) ⌝ }
 {
     let units = head.units;
     let unused = at + HEAD_WORDS + UNIT_WORDS * units;

@@ -5,6 +5,7 @@ use crate::print;
 use evidence::joins;
 use frames::list::Nearest;
 use frames::stage;
+use limits::common::ABSENT;
 use rate::duration;
 
 // A default for a rate: within the range, at its ends and just past them, and what is no number or not finite.
@@ -83,9 +84,9 @@ fn joins_case(text: &[u8], at: usize) -> usize {
     p.next
 }
 
-// The next nucleus, where 4294967295 stands for none.
+// The next nucleus, where `ABSENT` stands for none.
 fn next_of(frame: u32) -> Nearest {
-    if frame == 4294967295 {
+    if frame == ABSENT {
         Nearest::None
     } else {
         Nearest::At(frame)

@@ -38,6 +38,7 @@ fn longer(value: u64, digit: u8) -> u64 {
     value * 10 + d as u64
 }
 
+// The highest number of a word for any above it.
 fn clamped(value: u64) -> u32 {
     if value < 4294967295 {
         value as u32

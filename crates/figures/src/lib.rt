@@ -18,7 +18,8 @@ ghost use lib.ListN.{length};
 ghost use Rattle.ieee.specs.Range.{within};
 ghost use Rattle.record.specs.inner.Bounds.{Within};
 ghost use Rattle.record.specs.Format.{costsBytes, tableBytes};
-ghost use Rattle.record.specs.Conditions.{thousand, million, f32At, f64At, isDuration, badScores, badFigures, badTable, badCost};
+ghost use Rattle.limits.specs.Common.{million, thousand};
+ghost use Rattle.record.specs.Conditions.{f32At, f64At, isDuration, badScores, badFigures, badTable, badCost};
 
 // the bits of 1,000,000 and of 1,000
 const MILLION_32: u32 = 0x4974_2400;
@@ -89,14 +90,14 @@ pub fn bad_cost(bytes: &[u8], at: Layout) -> bool
     ensures { λ r. ⌜ r ≡ badCost (now (bytes .entry)) at ⌝ }
 {
     let costs = at.costs;
-    let entries = (at.nuclei.count + at.anchors.count) * at.scores.count;
+    let entries = (at.nuclei.count + at.added_anchors.count) * at.scores.count;
     if bad_scores(bytes, at.scores.start, entries)
         | bad_figures(bytes, costs)
         | bad_table(bytes, costs + FIRST_TABLE_AT)
     {
         return true;
     }
-    if at.anchors.count == 0 {
+    if at.added_anchors.count == 0 {
         return false;
     }
     bad_table(bytes, costs + SECOND_TABLE_AT)

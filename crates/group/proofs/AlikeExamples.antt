@@ -1,5 +1,5 @@
--- The law of phrases that read alike at work: a phrase whose columns are numbered otherwise, with any figure wherever decoding reads none and
--- with any other candidates, gives a candidate the same words. The sample phrase is one.
+-- The law of phrases that read alike at work: a phrase whose columns are numbered otherwise, with any figure wherever decoding reads none
+-- and with any other candidates, gives a candidate the same words. The sample phrase is one.
 use Prim.Native.Nat.{ℕ, zero, suc, _+_, _-_, _<_}
 use mathlib.Core.Bool.{Bool, true, cond, _&&_}
 use mathlib.Core.List.{List, [], _∷_, map}
@@ -59,7 +59,8 @@ getD-mapped f [] unit h = absurd (omega arith)
 getD-mapped f (column ∷ columns) zero h = refl
 getD-mapped f (column ∷ columns) (suc unit) h = getD-mapped f columns unit (omega arith)
 
-module _ (phrase : Phrase) (new old : ℕ → ℕ) (back : (column : ℕ) → old (new column) ≡ column) (other : Float) (candidates : List Candidate) where
+module _ (phrase : Phrase) (new old : ℕ → ℕ) (back : (column : ℕ) → old (new column) ≡ column) (other : Float)
+    (candidates : List Candidate) where
   pub rewritten-alike : (columns : List ℕ) → ReadsAlike phrase columns (rewritten old other candidates phrase) (map new columns)
   rewritten-alike columns = record {
     mask = refl;
@@ -91,8 +92,10 @@ sample-third = refl
 
 -- with its column put at 5
 sample-moved : (other : Float) (candidates : List Candidate)
-    → wordsOf (limitsOf sample .units) (entryOf (rewritten (λ column. column - 5) other candidates (phraseOf sample)) (third 5)) ≡ thirdWords
+    → wordsOf (limitsOf sample .units) (entryOf (rewritten (λ column. column - 5) other candidates (phraseOf sample)) (third 5))
+    ≡ thirdWords
 sample-moved other candidates =
     sym (same-entry-words (third 0) (third 5) (rows-below sample)
-    (rewritten-alike (phraseOf sample) (λ column. column + 5) (λ column. column - 5) (λ column. omega arith) other candidates (0 ∷ [])) refl (limitsOf sample .units))
+    (rewritten-alike (phraseOf sample) (λ column. column + 5) (λ column. column - 5) (λ column. omega arith) other candidates (0 ∷ [])) refl
+    (limitsOf sample .units))
     ∙ sample-third

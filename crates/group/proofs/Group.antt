@@ -68,12 +68,14 @@ sample-laid : layoutOf sample .candidates .count ≡ 2
 unfolding workedWords sample
 sample-laid = refl
 
-module _ (best : List Float) (back out : List ℕ) (long : shortDesk (limitsOf sample) 2 (length best) (length back) (length out) ≡ false) where
+module _ (best : List Float) (back out : List ℕ)
+    (long : shortDesk (limitsOf sample) 2 (length best) (length back) (length out) ≡ false) where
   -- with buffers that are long enough it is accepted
   sample-accepted : refusalWith sample (length best) (length back) (length out) ≡ none
   sample-accepted =
       desk-last sample (length best) (length back) (length out) sample-record.accepted
-      ∙ ap (λ (b : Bool). cond b (some Desk) none) (ap (λ (m : ℕ). shortDesk (limitsOf sample) m (length best) (length back) (length out)) sample-laid ∙ long)
+      ∙ ap (λ (b : Bool). cond b (some Desk) none)
+      (ap (λ (m : ℕ). shortDesk (limitsOf sample) m (length best) (length back) (length out)) sample-laid ∙ long)
 
   -- and every decoder that meets the contract answers 2 and writes these words
   pub sample-decoded :
@@ -81,9 +83,11 @@ module _ (best : List Float) (back out : List ℕ) (long : shortDesk (limitsOf s
       (outcome answer ≡ accepted 2) × (out′ ≡ sampleWords ++ drop 104 out)
   unfolding workedWords sample
   sample-decoded decodes = (
-    decodes .answered ∙ ap (λ (o : Option Refusal). outcomeOf o (length (phraseOf sample .candidates))) sample-accepted ∙ ap accepted sample-candidates,
+    decodes .answered ∙ ap (λ (o : Option Refusal). outcomeOf o (length (phraseOf sample .candidates))) sample-accepted
+        ∙ ap accepted sample-candidates,
     decodes .accepts sample-accepted .words
-        ∙ ap (λ (words : List ℕ). words ++ drop (length (phraseOf sample .candidates) * entryWords (limitsOf sample .units)) out) sample-words
+        ∙ ap (λ (words : List ℕ). words ++ drop (length (phraseOf sample .candidates) * entryWords (limitsOf sample .units)) out)
+        sample-words
         ∙ ap (λ (m : ℕ). sampleWords ++ drop (m * entryWords (limitsOf sample .units)) out) sample-candidates,
   )
 
@@ -113,7 +117,8 @@ spans-cut = span-examples.two-spans
 abbrev frames : ℕ → ℕ → Span
 frames start end = record { start = start; end = end }
 
-pub clip-between : reported (anchored (frames 4 14) ∷ unanchored (frames 10 22) ∷ anchored (frames 18 30) ∷ []) ≡ frames 4 14 ∷ frames 14 18 ∷ frames 18 30 ∷ []
+pub clip-between : reported (anchored (frames 4 14) ∷ unanchored (frames 10 22) ∷ anchored (frames 18 30) ∷ [])
+    ≡ frames 4 14 ∷ frames 14 18 ∷ frames 18 30 ∷ []
 clip-between = clip.between
 
 pub clip-first : reported (unanchored (frames 20 28) ∷ anchored (frames 15 30) ∷ []) ≡ frames 20 20 ∷ frames 15 30 ∷ []

@@ -1,4 +1,5 @@
--- Decoding at work on examples: those of document 01, the wrong decoders that the sample phrase shuts out, and a phrase written another way.
+-- Decoding at work on examples: those of document 01, the wrong decoders that the sample phrase shuts out, and a phrase written another
+-- way.
 mod Group
 mod ShutOut
 mod AlikeExamples

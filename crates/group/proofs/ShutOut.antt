@@ -31,13 +31,15 @@ figure (refused n) = n
 
 -- "A decoder that says 5 to everything"
 says-5 :
-    (best : List Float) (back out : List ℕ) {best′ : List Float} {back′ out′ : List ℕ} → shortDesk (limitsOf sample) 2 (length best) (length back) (length out) ≡ false →
+    (best : List Float) (back out : List ℕ) {best′ : List Float} {back′ out′ : List ℕ} →
+    shortDesk (limitsOf sample) 2 (length best) (length back) (length out) ≡ false →
     Decodes sample best back out (Refused Track) best′ back′ out′ → ⊥
 says-5 best back out long decodes = eqb-false 5 0 refl (ap figure (sample-decoded best back out long decodes .0))
 
 -- "One that returns success over untouched words"
 untouched :
-    (best : List Float) (back : List ℕ) {answer : Decoded} {best′ : List Float} {back′ : List ℕ} → shortDesk (limitsOf sample) 2 (length best) (length back) 104 ≡ false →
+    (best : List Float) (back : List ℕ) {answer : Decoded} {best′ : List Float} {back′ : List ℕ} →
+    shortDesk (limitsOf sample) 2 (length best) (length back) 104 ≡ false →
     Decodes sample best back (replicate 104 0) answer best′ back′ (replicate 104 0) → ⊥
 untouched best back long decodes =
     eqb-false 0 3 refl (ap (λ (out : List ℕ). getD out 0 0) (sample-decoded best back (replicate 104 0) long decodes .1))

@@ -6,7 +6,8 @@ use Prim.Native.Nat.{ℕ}
 use lib.IntN.{pos, negsuc}
 use lib.Ieee.{Float, fin, binary32, binary64, ofInt, ofBits, toBits, round, lt, eq, isNan}
 use Rattle.ieee.specs.Convert.{narrowed, lowest, highest, clamped, clampedLog}
-use Rattle.ieee.specs.TotalOrder.{totalBefore, keyOfBits, totalKey}
+use Rattle.ieee.specs.TotalOrder.{totalBefore}
+use Rattle.ieee.specs.inner.Keys.{keyOfBits, totalKey}
 
 -- the bounds of the clamp
 upper-bound : highest ≡ ofInt binary64 (pos 1000000)

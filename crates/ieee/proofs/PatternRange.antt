@@ -11,7 +11,8 @@ use lib.Ieee.{Float, nan, inf, fin, Format, low, neg, le, hid, ones, top, ofBits
 use lib.Ieee.Fits.{and-i, and-l, and-r, eq→eqb}
 use lib.Ieee.Bits.{nanBits-is}
 use Rattle.ieee.specs.inner.Value.{mag, over, under}
-use Rattle.ieee.specs.Range.{between, within, RangeTest}
+use Rattle.ieee.specs.Range.{between, within}
+use Rattle.ieee.specs.inner.Ranges.{RangeTest}
 use Rattle.laws.proofs.Tests.{either, either-left, either-right, same-test}
 use Rattle.ieee.proofs.Value.{neg-real}
 use Rattle.ieee.proofs.Magnitude.{between-finite}

@@ -6,7 +6,8 @@ use native.Mathlib.Omega.{arith}
 use borrow.Author.Tests.{lt-ltb, le-ltb}
 use lib.Dec.{T, ltb, eqb, ltb→lt, nltb→le}
 use lib.Ieee.{Float, nan, inf, fin, Format, up, down, lt, eq, isNan, top, toBits}
-use Rattle.ieee.specs.TotalOrder.{Comparable, negative, totalBefore, keyOfBits, totalKey}
+use Rattle.ieee.specs.TotalOrder.{negative, totalBefore}
+use Rattle.ieee.specs.inner.Keys.{Comparable, keyOfBits, totalKey}
 use Rattle.ieee.proofs.TotalOrderMagnitude.{bare, toBits-sign, bare-lt, same-bits, magnitude-order}
 
 -- ---- the order by the two signs: a is whether x is the smaller in size, b whether y is

@@ -15,7 +15,8 @@ use lib.Ieee.Fits.{inf-fits}
 use lib.Ieee.Scale.{finite}
 use Rattle.laws.proofs.Tests.{same-test}
 use Rattle.ieee.specs.inner.Value.{mag, over, under, Real}
-use Rattle.ieee.specs.TotalOrder.{Comparable, negative}
+use Rattle.ieee.specs.TotalOrder.{negative}
+use Rattle.ieee.specs.inner.Keys.{Comparable}
 use Rattle.ieee.proofs.Order.{lt-iff}
 use Rattle.ieee.proofs.Pattern.{finite-pattern, pattern-le}
 use Rattle.ieee.proofs.NarrowPattern.{toBits-inf}

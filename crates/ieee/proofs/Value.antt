@@ -15,7 +15,7 @@ use lib.Ieee.Scale.{finite, overflow}
 use lib.Ieee.Positive.{num, den, den-pos}
 use Rattle.laws.proofs.Numbers.{le-of-not-lt}
 use Rattle.ieee.specs.inner.Value.{one, mag, over, under, Real}
-use Rattle.ieee.specs.TotalOrder.{Comparable}
+use Rattle.ieee.specs.inner.Keys.{Comparable}
 
 pub one-pos : (f : Format) → 0 < one f
 unfolding one

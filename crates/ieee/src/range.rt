@@ -3,7 +3,8 @@
 
 ghost use Prim.Native.Nat.{_<_, _*_};
 ghost use lib.Ieee.{binary32, binary64, neg, ofBits, ones, hid};
-ghost use Rattle.ieee.specs.Range.{between, within, RangeTest};
+ghost use Rattle.ieee.specs.Range.{between, within};
+ghost use Rattle.ieee.specs.inner.Ranges.{RangeTest};
 
 // the weight of the sign's bit
 const SIGN32: u32 = 0x8000_0000;

@@ -4,7 +4,7 @@ ghost use mathlib.Core.Path.{_≡_};
 ghost use mathlib.Core.Bool.{not};
 ghost use lib.Dec.{T};
 ghost use lib.Ieee.{binary32, isNan};
-ghost use Rattle.ieee.specs.TotalOrder.{keyOfBits, totalKey};
+ghost use Rattle.ieee.specs.inner.Keys.{keyOfBits, totalKey};
 
 // The place in the total order of the value with these bits, as a number.
 pub fn key_of_bits(bits: u32) -> u32

@@ -4,7 +4,7 @@ use mathlib.Core.Path.{_≡_, refl, ap, ap₂, _∙_}
 use mathlib.Core.List.{List}
 use native.Mathlib.Omega.{arith}
 use lib.ListN.{length, set, length-set}
-use Rattle.laws.specs.Listed.{written}
+use Rattle.laws.specs.inner.Tables.{written}
 use Rattle.laws.proofs.Listed.{written-none, written-more}
 
 pub record Filling {A : Type 0} (f : ℕ → A) (n : ℕ) (old now : List A) (j : ℕ) : Type 0 where

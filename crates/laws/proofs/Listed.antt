@@ -7,7 +7,8 @@ use native.Mathlib.Numerals.{add-one}
 use native.Mathlib.Omega.{arith}
 use lib.ListN.{length, getD, drop, set, replicate, length-append, length-drop, length-replicate, getD-replicate, List·getD-append, drop-of-length-le}
 use lib.Seq.{set-append-seam, getD-append-add, drop-cons, drop-length, set-at}
-use Rattle.laws.specs.Listed.{listed, padded, tableOf, written}
+use Rattle.laws.specs.Listed.{listed}
+use Rattle.laws.specs.inner.Tables.{padded, tableOf, written}
 use Rattle.laws.proofs.Lists.{drop-replicate}
 
 module _ {ℓ} {A : Type ℓ} where

@@ -6,7 +6,8 @@ use native.Mathlib.Nat.{add-zero}
 use native.Mathlib.Omega.{arith}
 use lib.ListN.{length, getD, drop}
 use lib.Seq.{set-getD, drop-at, getD-append-add, getD-drop}
-use Rattle.laws.specs.Listed.{listed, written}
+use Rattle.laws.specs.Listed.{listed}
+use Rattle.laws.specs.inner.Tables.{written}
 use Rattle.laws.proofs.Listed.{length-listed, listed-same}
 use Rattle.laws.proofs.Filling.{Filling, filling-more}
 

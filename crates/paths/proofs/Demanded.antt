@@ -16,7 +16,7 @@ use Rattle.paths.specs.Problem.{Problem}
 use Rattle.paths.specs.Path.{Path, sum, Best, NoPath}
 use Rattle.paths.specs.Cell.{Cell, empty, held}
 use Rattle.paths.specs.Passes.{passProblem, speaks, hasNucleus, inOrder, passes}
-use Rattle.paths.specs.Demand.{Answer, found, none, unvoiced, Admits, AdmitsNone, FirstOf, here, after, Each, all-done, each-of, Found, Demanded, a-path, no-path, no-nucleus}
+use Rattle.paths.specs.Demand.{Answer, found, none, unvoiced, Admits, AdmitsNone, FirstOf, here, after, EachPass, all-done, each-of, Found, Demanded, a-path, no-path, no-nucleus}
 use Rattle.paths.specs.Search.{PathRule, orElse, searchBy}
 use Rattle.paths.specs.theory.Finite.{Finite}
 use Rattle.paths.proofs.Optimal.{best-sums-equal}
@@ -25,7 +25,8 @@ use Rattle.paths.proofs.Optimal.{best-sums-equal}
 
 -- the same pass and, as numbers, the same sum; or the same word
 pub data Alike : Answer → Answer → Type 0 where
-  paths-alike : {pass : Pass} {path other : Path} {total otherTotal : Float} → T (eq total otherTotal) → Alike (found pass path total) (found pass other otherTotal)
+  paths-alike : {pass : Pass} {path other : Path} {total otherTotal : Float} → T (eq total otherTotal)
+      → Alike (found pass path total) (found pass other otherTotal)
   none-alike : Alike none none
   unvoiced-alike : Alike unvoiced unvoiced
 
@@ -38,26 +39,30 @@ module _ (phrase : Phrase) (columns : List ℕ) where
   unfolding NoPath
   conflict pass missing path = missing (path .0) (path .1) (path .2)
 
-  first-same : {order : List Pass} {pass other : Pass} → FirstOf phrase columns pass order → FirstOf phrase columns other order → pass ≡ other
+  first-same : {order : List Pass} {pass other : Pass} → FirstOf phrase columns pass order → FirstOf phrase columns other order
+      → pass ≡ other
   first-same (here a) (here b) = refl
   first-same {pass = pass} (here a) (after missing first) = absurd (conflict pass missing a)
   first-same {other = other} (after missing first) (here a) = absurd (conflict other missing a)
   first-same (after missing first) (after missed later) = first-same first later
 
-  none-first : {order : List Pass} {pass : Pass} → Each (AdmitsNone phrase columns) order → FirstOf phrase columns pass order → ⊥
+  none-first : {order : List Pass} {pass : Pass} → EachPass (AdmitsNone phrase columns) order → FirstOf phrase columns pass order → ⊥
   none-first {pass = pass} (each-of missing others) (here a) = conflict pass missing a
   none-first (each-of missing others) (after missed first) = none-first others first
 
   -- "The answer is 'no path' exactly when speech or a nucleus is lacking, or no pass admits a path of that count", the other way round
   pub path-exactly : {answer : Answer} → Demanded phrase columns answer
-      → HasPath answer ↔ (T (speaks (phrase .speech)) × T (hasNucleus phrase) × ((pass : Pass) × FirstOf phrase columns pass (inOrder phrase)))
+      → HasPath answer ↔
+      (T (speaks (phrase .speech)) × T (hasNucleus phrase) × ((pass : Pass) × FirstOf phrase columns pass (inOrder phrase)))
   path-exactly (a-path {pass = pass} f) = (λ has. (f .speech, f .nucleus, (pass, f .first)), λ all. has-path)
   path-exactly (no-path nucleus missing) = (λ has. elim has [ ], λ all. absurd (none-first (missing (all .0)) (all .2 .1)))
   path-exactly (no-nucleus lacking) = (λ has. elim has [ ], λ all. absurd (T-not (hasNucleus phrase) lacking (all .1)))
 
   -- the paths of the pass named have finite sums
-  module _ (finite : (pass : Pass) → FirstOf phrase columns pass (inOrder phrase) → Finite (passProblem phrase pass columns) (length columns)) where
-    same-sum : {pass : Pass} {path other : Path} {total otherTotal : Float} → Found phrase columns pass path total → Found phrase columns pass other otherTotal
+  module _ (finite : (pass : Pass) → FirstOf phrase columns pass (inOrder phrase)
+      → Finite (passProblem phrase pass columns) (length columns)) where
+    same-sum : {pass : Pass} {path other : Path} {total otherTotal : Float} → Found phrase columns pass path total
+        → Found phrase columns pass other otherTotal
         → T (eq total otherTotal)
     same-sum {pass} f g =
         subst₂ (λ (x y : Float). T (eq x y)) (sym (f .summed)) (sym (g .summed))
@@ -96,9 +101,9 @@ module _ (rule : PathRule) (phrase : Phrase) (columns : List ℕ) where
   data Walked (order : List Pass) : Answer → Type 0 where
     first-found : {pass : Pass} {path : Path} → FirstOf phrase columns pass order → Best (problem pass) (length columns) path
         → Walked order (found pass path (sum (problem pass) path))
-    none-found : Each (AdmitsNone phrase columns) order → Walked order (cond (hasNucleus phrase) none unvoiced)
+    none-found : EachPass (AdmitsNone phrase columns) order → Walked order (cond (hasNucleus phrase) none unvoiced)
 
-  walked : {order : List Pass} → Each Sound order → Walked order (searchBy rule phrase columns order)
+  walked : {order : List Pass} → EachPass Sound order → Walked order (searchBy rule phrase columns order)
   unfolding searchBy
   walked all-done = none-found all-done
   walked (each-of {pass = pass} {later = later} pick sound) = go pick (walked sound)
@@ -113,17 +118,22 @@ module _ (rule : PathRule) (phrase : Phrase) (columns : List ℕ) where
       go (nothing missing) rest = further missing rest
 
   -- with no path, the word
-  word : (T (hasNucleus phrase) → T (speaks (phrase .speech)) → Each (AdmitsNone phrase columns) (inOrder phrase)) → Demanded phrase columns (cond (hasNucleus phrase) none unvoiced)
-  word missing = by-choice (Demanded phrase columns) (hasNucleus phrase) (λ nucleus. no-path nucleus (missing nucleus)) (λ none. no-nucleus none)
+  word : (T (hasNucleus phrase) → T (speaks (phrase .speech)) → EachPass (AdmitsNone phrase columns) (inOrder phrase))
+      → Demanded phrase columns (cond (hasNucleus phrase) none unvoiced)
+  word missing =
+      by-choice (Demanded phrase columns) (hasNucleus phrase) (λ nucleus. no-path nucleus (missing nucleus)) (λ none. no-nucleus none)
 
-  pub search-demanded : Each Sound (inOrder phrase) → Demanded phrase columns (searchBy rule phrase columns (passes phrase))
+  pub search-demanded : EachPass Sound (inOrder phrase) → Demanded phrase columns (searchBy rule phrase columns (passes phrase))
   unfolding passes searchBy
   search-demanded sound =
-      by-choice (λ (order : List Pass). Demanded phrase columns (searchBy rule phrase columns order)) (speaks (phrase .speech) && hasNucleus phrase)
+      by-choice (λ (order : List Pass). Demanded phrase columns (searchBy rule phrase columns order))
+      (speaks (phrase .speech) && hasNucleus phrase)
       (λ t. all-searched t (walked sound))
-      (λ no. word (λ nucleus speech. absurd (T-not (speaks (phrase .speech) && hasNucleus phrase) no (and-i (speaks (phrase .speech)) (hasNucleus phrase) speech nucleus))))
+      (λ no. word (λ nucleus speech. absurd
+      (T-not (speaks (phrase .speech) && hasNucleus phrase) no (and-i (speaks (phrase .speech)) (hasNucleus phrase) speech nucleus))))
     where
-      all-searched : T (speaks (phrase .speech) && hasNucleus phrase) → {answer : Answer} → Walked (inOrder phrase) answer → Demanded phrase columns answer
+      all-searched : T (speaks (phrase .speech) && hasNucleus phrase) → {answer : Answer} → Walked (inOrder phrase) answer
+          → Demanded phrase columns answer
       all-searched t (first-found first best) = a-path (record {
         speech = and-l (speaks (phrase .speech)) (hasNucleus phrase) t;
         nucleus = and-r (speaks (phrase .speech)) (hasNucleus phrase) t;

@@ -9,7 +9,8 @@ use native.Mathlib.Omega.{arith}
 use lib.Dec.{eqb}
 use lib.ListN.{length, getD}
 use Rattle.laws.proofs.Tests.{by-choice}
-use Rattle.paths.specs.Frames.{Increasing, weight, speechFrom, speechIn}
+use Rattle.paths.specs.Frames.{weight, speechFrom, speechIn}
+use Rattle.paths.specs.inner.Order.{Increasing}
 
 -- a list in increasing order, at any two places
 pub increasing-le : (frames : List ℕ) → Increasing frames → (i j : ℕ) → i ≤ j → j < length frames → getD frames i 0 ≤ getD frames j 0

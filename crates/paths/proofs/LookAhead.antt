@@ -13,7 +13,7 @@ use borrow.Author.Tests.{le-leb, lt-leb, lt-ltb, le-ltb, ne-eqb}
 use Rattle.phrase.specs.Phrase.{Phrase, Stage}
 use Rattle.paths.specs.declared.passes.Strictness.{Strictness}
 use Rattle.paths.specs.declared.passes.Strictness.the-variants.{Strict, Relaxed}
-use Rattle.paths.specs.Frames.{Increasing}
+use Rattle.paths.specs.inner.Order.{Increasing}
 use Rattle.paths.specs.Anchors.{Anchor, select, kept, heldIn, rowOr}
 use Rattle.limits.specs.Common.{longestUnit}
 use Rattle.paths.specs.Units.{fitsUnit, mayHold, admitsUnit}
@@ -43,7 +43,8 @@ none-before beyond to no-more h = none-from to {low = to} no-more (le-refl to)
 none-before beyond to (and-then {anchor = anchor} g r) h = none-from to (and-then (le-refl (anchor .frame)) r) h
 
 -- the first stays, and what is before the end of the others
-first-before : (to : ℕ) (anchor : Anchor) (anchors : List Anchor) → anchor .frame < to → before (anchor ∷ anchors) to ≡ anchor ∷ before anchors to
+first-before : (to : ℕ) (anchor : Anchor) (anchors : List Anchor) → anchor .frame < to
+    → before (anchor ∷ anchors) to ≡ anchor ∷ before anchors to
 unfolding before select
 first-before to anchor anchors h = rw (lt-ltb (anchor .frame) to h)
 
@@ -85,7 +86,8 @@ module _ {anchors : List Anchor} (rising : Rising 0 anchors) (beyond from to : �
   holds-more past = rw (held-ahead anchors from to) (more-before beyond to rising-ahead most past)
 
   mayHold-ahead : (strictness : Strictness)
-      → mayHold strictness (length (heldIn anchors from to)) ≡ mayHold strictness (takenIn (firstAhead beyond anchors from) (secondAhead beyond anchors from) to)
+      → mayHold strictness (length (heldIn anchors from to))
+      ≡ mayHold strictness (takenIn (firstAhead beyond anchors from) (secondAhead beyond anchors from) to)
   mayHold-ahead strictness =
       let first = firstAhead beyond anchors from in
       let second = secondAhead beyond anchors from in
@@ -112,7 +114,8 @@ pub barred-beyond : (strictness : Strictness) (anchors : List Anchor) (from : �
 unfolding admitsUnit
 barred-beyond strictness anchors from {to} {further} h (inl long) = rw (lt-leb (further - from) longestUnit (omega arith), and-false)
 barred-beyond strictness anchors from {to} {further} h (inr two) =
-    ap (λ (b : Bool). fitsUnit (further - from) && b) (may-not strictness _ (le-trans two (heldIn-more anchors from h))) ∙ and-false (fitsUnit (further - from))
+    ap (λ (b : Bool). fitsUnit (further - from) && b) (may-not strictness _ (le-trans two (heldIn-more anchors from h)))
+    ∙ and-false (fitsUnit (further - from))
 
 -- over boundaries: once the unit to boundary j is so, no later boundary is a target
 pub barred-later : (phrase : Phrase) (stage : Stage) (strictness : Strictness) (columns : List ℕ) → Increasing (stage .boundaries)

@@ -45,7 +45,8 @@ module _ (q : Problem) (k : ℕ) where
   arrives-on (suc s) (suc j) a b (last e) = subst (Arrives q k (on (suc s) (suc j))) (sym e) (by-gap a b)
   arrives-on (suc s) (suc j) a b (earlier i) = go (ways-below _ _ (suc j) i)
     where
-      go : {w : Way State Move} → Below (λ i. q .unitOk i (suc j)) (λ i. after (on s i) (byUnit (suc j))) (suc j) w → Arrives q k (on (suc s) (suc j)) w
+      go : {w : Way State Move} → Below (λ i. q .unitOk i (suc j)) (λ i. after (on s i) (byUnit (suc j))) (suc j) w
+          → Arrives q k (on (suc s) (suc j)) w
       go (below l ok) = by-unit a l b ok
 
   pub arrives : (x : State) {w : Way State Move} → In w (waysOf q k x) → Arrives q k x w
@@ -95,7 +96,8 @@ module _ (q : Problem) (k : ℕ) where
       apart w (last e) = e
       apart w (earlier i) = elim i [ ]
 
-      not-unit : {s j : ℕ} {y : State} {w : Way State Move} → Below (λ i. q .unitOk i j) (λ i. after (on s i) (byUnit j)) j w → w ≡ after y byGap → ⊥
+      not-unit : {s j : ℕ} {y : State} {w : Way State Move} → Below (λ i. q .unitOk i j) (λ i. after (on s i) (byUnit j)) j w
+          → w ≡ after y byGap → ⊥
       not-unit (below l ok) e = let z : _≡_ {A = ℕ} 0 1 = cc in omega arith
 
       go : (s j : ℕ) → Once (waysIn q s j)

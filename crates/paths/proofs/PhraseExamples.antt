@@ -25,7 +25,8 @@ abbrev nought : Float
 nought = fin false 0 (pos 0)
 
 abbrev stageOf : List ℕ → ℕ → List ℕ → (ℕ → Float) → Stage
-stageOf anchors firstRow boundaries duration = record { anchors = anchors; firstRow = firstRow; boundaries = boundaries; duration = duration }
+stageOf anchors firstRow boundaries duration =
+    record { anchors = anchors; firstRow = firstRow; boundaries = boundaries; duration = duration }
 
 abbrev noStage : Stage
 noStage = stageOf [] 0 [] (λ frames. nought)
@@ -59,7 +60,8 @@ worked = chosen
 
 abbrev sample : Phrase
 sample =
-    phraseOf (replicate 20 1) (stageOf (7 ∷ []) 0 (4 ∷ 14 ∷ []) (λ frames. cond (eqb frames 10) (fin true 1 (negsuc 1)) nought)) noStage (spoken 4 14)
+    phraseOf (replicate 20 1) (stageOf (7 ∷ []) 0 (4 ∷ 14 ∷ []) (λ frames. cond (eqb frames 10) (fin true 1 (negsuc 1)) nought)) noStage
+    (spoken 4 14)
     (λ row. fin false 3 (pos 0)) (fin false 1 (negsuc 0)) (fin true 1 (pos 1)) (fin true 1 (pos 2))
 
 -- candidate 3: the unit 4..14, sum -2.25
@@ -87,11 +89,13 @@ unfolding admitsUnit
 unit-lengths = refl
 
 -- with none, one and two anchors
-anchors-held : map (λ anchors. admitsUnit Strict anchors 0 10) ([] ∷ (anchorAt 3 ∷ []) ∷ (anchorAt 3 ∷ anchorAt 4 ∷ []) ∷ []) ≡ false ∷ true ∷ false ∷ []
+anchors-held : map (λ anchors. admitsUnit Strict anchors 0 10) ([] ∷ (anchorAt 3 ∷ []) ∷ (anchorAt 3 ∷ anchorAt 4 ∷ []) ∷ [])
+    ≡ false ∷ true ∷ false ∷ []
 unfolding admitsUnit
 anchors-held = refl
 
-anchors-held-relaxed : map (λ anchors. admitsUnit Relaxed anchors 0 10) ([] ∷ (anchorAt 3 ∷ []) ∷ (anchorAt 3 ∷ anchorAt 4 ∷ []) ∷ []) ≡ true ∷ true ∷ false ∷ []
+anchors-held-relaxed : map (λ anchors. admitsUnit Relaxed anchors 0 10) ([] ∷ (anchorAt 3 ∷ []) ∷ (anchorAt 3 ∷ anchorAt 4 ∷ []) ∷ [])
+    ≡ true ∷ true ∷ false ∷ []
 unfolding admitsUnit
 anchors-held-relaxed = refl
 
@@ -120,7 +124,8 @@ negated-start = refl
 -- Start -1, score 1, duration -2^-40 - 2^-54: score and duration are rounded to 1 - 2^-40 first, and the sum is -2^-40. Added one
 -- after the other they would leave the duration; rounded to an f32 first, 0.
 score-and-duration-first : chosen
-    (phraseOf (1 ∷ 1 ∷ 1 ∷ 1 ∷ 0 ∷ 0 ∷ 0 ∷ 1 ∷ []) (stageOf (7 ∷ []) 0 (4 ∷ 14 ∷ []) (λ frames. fin true 16385 (negsuc 53))) noStage (spoken 4 14)
+    (phraseOf (1 ∷ 1 ∷ 1 ∷ 1 ∷ 0 ∷ 0 ∷ 0 ∷ 1 ∷ []) (stageOf (7 ∷ []) 0 (4 ∷ 14 ∷ []) (λ frames. fin true 16385 (negsuc 53))) noStage
+    (spoken 4 14)
     (λ row. fin false 1 (pos 0)) (fin false 1 (negsuc 1)) nought nought)
     (0 ∷ []) ≡ found NucleiStrict (unit (begin 0) 1) (fin true 1 (negsuc 39))
 unfolding worked
@@ -146,7 +151,8 @@ nuclei-counted = refl
 
 -- its anchor on a 0 byte is dropped, and the nuclei are not searched relaxed
 added-relaxed : chosen
-    (zeroed (1 ∷ 1 ∷ 0 ∷ replicate 9 1) (stageOf (11 ∷ []) 0 (0 ∷ 6 ∷ []) (λ frames. nought)) (stageOf (2 ∷ []) 1 (0 ∷ 6 ∷ []) (λ frames. nought)) (spoken 0 12))
+    (zeroed (1 ∷ 1 ∷ 0 ∷ replicate 9 1) (stageOf (11 ∷ []) 0 (0 ∷ 6 ∷ []) (λ frames. nought))
+    (stageOf (2 ∷ []) 1 (0 ∷ 6 ∷ []) (λ frames. nought)) (spoken 0 12))
     (0 ∷ []) ≡ found CountRelaxed (unit (begin 0) 1) nought
 unfolding worked
 added-relaxed = refl

@@ -1,50 +1,25 @@
 -- The figures of a stage's problem keep to whole-number bounds where those of the phrase do. Assumes nothing.
-use mathlib.Core.Bool.{Bool}
-use mathlib.Core.List.{List, [], _∷_}
-use Prim.Native.Nat.{ℕ, suc, _+_, _-_, _*_, _^_, _≤_, _<_}
+use mathlib.Core.List.{List, []}
+use Prim.Native.Nat.{ℕ, suc, _+_, _-_, _*_, _^_, _≤_}
 use native.Mathlib.Nat.{le-trans, mul-le-mul-left, mul-le-mul-right}
 use native.Mathlib.Omega.{arith}
 use lib.Dec.{T, leb, leb→le}
 use lib.ListN.{length, getD}
 use lib.Ieee.{Float, binary64, prec, mul}
 use lib.Ieee.Fits.{and-l, and-r}
-use Rattle.laws.proofs.Tests.{by-choice}
 use Rattle.ieee.specs.inner.Value.{Within}
 use Rattle.ieee.proofs.Magnitude.{add-within, sub-within, mul-within, neg-within, weaken}
+use Rattle.laws.specs.theory.Each.{Each, each-none, each-more}
 use Rattle.phrase.specs.Phrase.{Phrase, Stage}
 use Rattle.phrase.specs.Filler.{counted}
 use Rattle.paths.specs.declared.passes.Strictness.{Strictness}
-use Rattle.paths.specs.Anchors.{Anchor, select, numbered, keptIn, kept, heldIn}
+use Rattle.paths.specs.Anchors.{Anchor, kept, heldIn}
 use Rattle.limits.specs.Common.{shortestUnit, longestUnit}
 use Rattle.paths.specs.Units.{fitsUnit, mayHold, admitsUnit}
 use Rattle.paths.specs.StageProblem.{cost, scoreOf, unitValueOf, boundary, problemOf}
 use Rattle.paths.specs.theory.Bounded.{Figures, Ranges, fillerBound, stepBound, Room, Bounded}
 use Rattle.paths.proofs.Frames.{speechIn-le}
-use Rattle.paths.proofs.Anchors.{keptIn-le, heldIn-le}
-
--- ---- rows of the anchors that a unit holds
-
--- anchors with rows from `first` up to, but not including, `first + n`
-data InRows (first n : ℕ) : List Anchor → Type 0 where
-  no-anchor : InRows first n []
-  an-anchor : {anchor : Anchor} {anchors : List Anchor} → first ≤ anchor .row → anchor .row < first + n → InRows first n anchors → InRows first n (anchor ∷ anchors)
-
-rows-select : (test : Anchor → Bool) {first n : ℕ} {anchors : List Anchor} → InRows first n anchors → InRows first n (select test anchors)
-unfolding select
-rows-select test no-anchor = no-anchor
-rows-select test {first} {n} (an-anchor {anchor = anchor} low high more) =
-    by-choice (InRows first n) (test anchor) (λ t. an-anchor low high (rows-select test more)) (λ t. rows-select test more)
-
-rows-numbered : (first n row : ℕ) (frames : List ℕ) → first ≤ row → row + length frames ≤ first + n → InRows first n (numbered row frames)
-unfolding numbered
-rows-numbered first n row [] low high = no-anchor
-rows-numbered first n row (frame ∷ frames) low high = an-anchor low (omega arith) (rows-numbered first n (suc row) frames (omega arith) (omega arith))
-
-rows-held : (mask : List ℕ) (first : ℕ) (frames : List ℕ) (from to : ℕ) → InRows first (length frames) (heldIn (keptIn mask first frames) from to)
-unfolding keptIn heldIn
-rows-held mask first frames from to = rows-select _ (rows-select _ (rows-numbered first (length frames) first frames (omega arith) (omega arith)))
-
--- ---- the figures
+use Rattle.paths.proofs.Anchors.{keptIn-le, heldIn-le, InRows, held-rows}
 
 -- a figure times a count
 counted-within : {x : Float} {a n : ℕ} (m : ℕ) → Within binary64 x a → n ≤ m → m ≤ 2 ^ prec binary64 → a * m ≤ 2 ^ prec binary64
@@ -52,31 +27,37 @@ counted-within : {x : Float} {a n : ℕ} (m : ℕ) → Within binary64 x a → n
 counted-within {a = a} {n = n} m p h k room =
     weaken (a * m) (mul-le-mul-left a h) (mul-within p n (le-trans (mul-le-mul-left a h) room) (le-trans h k))
 
-module _ {most : Ranges} {phrase : Phrase} {stage : Stage} {columns : List ℕ} (room : Room most) (bounded : Bounded most phrase stage columns) where
+module _ {most : Ranges} {phrase : Phrase} {stage : Stage} {columns : List ℕ} (room : Room most)
+    (bounded : Bounded most phrase stage columns) where
   cost-within : (from to : ℕ) → Within binary64 (cost phrase from to) (fillerBound most)
   unfolding cost
   cost-within from to =
       sub-within
-      (counted-within (most .frames) (bounded .perFrame) (le-trans (speechIn-le (phrase .mask) from to) (bounded .frames)) (room .frames) (omega (arith, room .sums)))
+      (counted-within (most .frames) (bounded .perFrame) (le-trans (speechIn-le (phrase .mask) from to) (bounded .frames)) (room .frames)
+      (omega (arith, room .sums)))
       (counted-within (most .nuclei) (bounded .insertion) (le-trans inserted (bounded .nuclei)) (room .nuclei) (omega (arith, room .sums)))
       (omega (arith, room .sums))
     where
       inserted : length (heldIn (kept phrase (phrase .nuclei)) from to) ≤ length (phrase .nuclei .anchors)
-      inserted = le-trans (heldIn-le (kept phrase (phrase .nuclei)) from to) (keptIn-le (phrase .mask) (phrase .nuclei .firstRow) (phrase .nuclei .anchors))
+      inserted =
+          le-trans (heldIn-le (kept phrase (phrase .nuclei)) from to)
+          (keptIn-le (phrase .mask) (phrase .nuclei .firstRow) (phrase .nuclei .anchors))
 
-  score-within : (unit : ℕ) {anchors : List Anchor} → InRows (stage .firstRow) (length (stage .anchors)) anchors
+  score-within : (unit : ℕ) {anchors : List Anchor} → Each (InRows (stage .firstRow) (stage .firstRow + length (stage .anchors))) anchors
       → Within binary64 (scoreOf phrase (getD columns unit 0) anchors) (most .score)
   unfolding scoreOf
-  score-within unit no-anchor = bounded .unvoiced
-  score-within unit (an-anchor {anchor = anchor} low high more) = bounded .scores (anchor .row) unit low high
+  score-within unit each-none = bounded .unvoiced
+  score-within unit (each-more {x = anchor} (low, high) more) = bounded .scores (anchor .row) unit low high
 
   unit-within : (strictness : Strictness) (unit from to : ℕ) → 1 ≤ most .boundaries → T (admitsUnit strictness (kept phrase stage) from to)
       → Within binary64 (unitValueOf phrase stage (getD columns unit 0) from to) (most .score + most .duration)
   unfolding unitValueOf admitsUnit
   unit-within strictness unit from to some ok =
       let long = and-l (fitsUnit (to - from)) (mayHold strictness (length (heldIn (kept phrase stage) from to))) ok in
-      add-within (score-within unit (rows-held (phrase .mask) (stage .firstRow) (stage .anchors) from to))
-      (bounded .durations (to - from) (leb→le shortestUnit (to - from) (and-l (leb shortestUnit (to - from)) (leb (to - from) longestUnit) long))
+      add-within (score-within unit
+      (held-rows (phrase .mask) (stage .firstRow) (stage .firstRow + length (stage .anchors)) (stage .anchors) from to (omega arith)))
+      (bounded .durations (to - from)
+      (leb→le shortestUnit (to - from) (and-l (leb shortestUnit (to - from)) (leb (to - from) longestUnit) long))
       (leb→le (to - from) longestUnit (and-r (leb shortestUnit (to - from)) (leb (to - from) longestUnit) long)))
       (omega (arith, room .sums, mul-le-mul-right (stepBound most) some))
 
@@ -84,7 +65,9 @@ module _ {most : Ranges} {phrase : Phrase} {stage : Stage} {columns : List ℕ} 
   phrase-figures strictness = record {
     starts = λ i h. neg-within (cost-within 0 (boundary stage i));
     gaps = λ i h. weaken (stepBound most) (omega arith) (cost-within (boundary stage i) (boundary stage (suc i)));
-    units = λ unit i j h k ok. weaken (stepBound most) (omega arith) (unit-within strictness unit (boundary stage i) (boundary stage j) (omega (arith, bounded .boundaries)) ok);
+    units =
+        λ unit i j h k ok. weaken (stepBound most) (omega arith)
+        (unit-within strictness unit (boundary stage i) (boundary stage j) (omega (arith, bounded .boundaries)) ok);
     stops = λ i h. cost-within (boundary stage i) (length (phrase .mask));
     room = omega (arith, room .sums, mul-le-mul-right (stepBound most) (bounded .boundaries));
   }

@@ -17,7 +17,7 @@ use Rattle.laws.proofs.Convex.{Upward, Downward, one-range, narrower-range, pas
 use Rattle.laws.proofs.Range.{past-le}
 use Rattle.paths.specs.declared.passes.Strictness.{Strictness}
 use Rattle.paths.specs.declared.passes.Strictness.the-variants.{Strict, Relaxed}
-use Rattle.paths.specs.Frames.{Increasing}
+use Rattle.paths.specs.inner.Order.{Increasing}
 use Rattle.paths.specs.Anchors.{Anchor, select, heldIn}
 use Rattle.paths.specs.theory.LookAhead.{ahead}
 use Rattle.limits.specs.Common.{shortestUnit, longestUnit}
@@ -181,12 +181,14 @@ origins anchors bounds increasing strictness = record {
 -- ---- the anchor that a unit holds
 
 -- those that hold an anchor end no later than all that a strictness asks for
-pub strict-inside : (anchors : List Anchor) (bounds : List ℕ) (strictness : Strictness) (j : ℕ) → originsEnd Strict anchors bounds j ≤ originsEnd strictness anchors bounds j
+pub strict-inside : (anchors : List Anchor) (bounds : List ℕ) (strictness : Strictness) (j : ℕ)
+    → originsEnd Strict anchors bounds j ≤ originsEnd strictness anchors bounds j
 unfolding originsEnd
 strict-inside anchors bounds Strict j = le-refl (originsEnd Strict anchors bounds j)
 strict-inside anchors bounds Relaxed j =
     by-order 0 strict
-    (λ some. let last = past-greatest (goesTo Relaxed anchors bounds j) j (strict - 1) (omega (arith, past-le (goesTo Strict anchors bounds j) j))
+    (λ some. let last =
+    past-greatest (goesTo Relaxed anchors bounds j) j (strict - 1) (omega (arith, past-le (goesTo Strict anchors bounds j) j))
     (strict-relaxed anchors bounds (strict - 1) j (past-passes (goesTo Strict anchors bounds j) j some)) in omega arith)
     (λ none. omega arith)
   where
@@ -204,7 +206,8 @@ module _ (anchors : List Anchor) (bounds : List ℕ) (rising : Rising 0 anchors)
       let low = and-l (leb (lowOrigin anchors bounds j) i) (ltb i (originsEnd Relaxed anchors bounds j)) all in
       let strict : T (goesTo Strict anchors bounds j i) =
       subst T (sym (origins anchors bounds increasing Strict .ranged i j h within))
-      (and-i (leb (lowOrigin anchors bounds j) i) (ltb i (originsEnd Strict anchors bounds j)) low (lt→ltb i (originsEnd Strict anchors bounds j) below)) in
+      (and-i (leb (lowOrigin anchors bounds j) i) (ltb i (originsEnd Strict anchors bounds j)) low
+      (lt→ltb i (originsEnd Strict anchors bounds j) below)) in
       eqb→eq (length (heldIn anchors (getD bounds i 0) (getD bounds j 0))) 1 (and-r (fitsUnit (getD bounds j 0 - getD bounds i 0)) _ strict)
 
   pub held-in-range : (i j : ℕ) → i < j → j < length bounds → T (goesTo Relaxed anchors bounds j i)

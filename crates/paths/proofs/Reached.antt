@@ -17,7 +17,8 @@ use Rattle.laws.proofs.Convex.{first-least, first-other}
 use Rattle.laws.proofs.Range.{first-same}
 use Rattle.paths.specs.Problem.{Problem}
 use Rattle.paths.specs.Path.{sum}
-use Rattle.paths.specs.Cell.{Cell, empty, held, isHeld, keep, best, carry, only}
+use Rattle.paths.specs.Cell.{Cell, empty, held, keep, best, carry, only}
+use Rattle.paths.specs.inner.Held.{isHeld}
 use Rattle.paths.specs.CellRule.{Keeping, sweep, arrival, rows, paths, chosenPath}
 use Rattle.paths.specs.inner.Ranges.{inRange, Origins, arrivesFrom, firstReached}
 

@@ -6,13 +6,15 @@ use native.Mathlib.Nat.{le-trans}
 use native.Mathlib.Omega.{arith}
 use lib.ListN.{length, getD}
 use Rattle.laws.proofs.Tests.{by-choice}
-use Rattle.paths.specs.Frames.{Increasing, withinMask}
+use Rattle.paths.specs.Frames.{withinMask}
+use Rattle.paths.specs.inner.Order.{Increasing}
 use Rattle.paths.specs.Anchors.{Anchor, select, numbered, keptIn}
 
 -- anchors from a frame on, in strictly increasing order
 pub data Rising : ℕ → List Anchor → Type 0 where
   no-more : {low : ℕ} → Rising low []
-  and-then : {low : ℕ} {anchor : Anchor} {anchors : List Anchor} → low ≤ anchor .frame → Rising (suc (anchor .frame)) anchors → Rising low (anchor ∷ anchors)
+  and-then : {low : ℕ} {anchor : Anchor} {anchors : List Anchor} → low ≤ anchor .frame → Rising (suc (anchor .frame)) anchors
+      → Rising low (anchor ∷ anchors)
 
 rising-from : {low lower : ℕ} {anchors : List Anchor} → lower ≤ low → Rising low anchors → Rising lower anchors
 rising-from h no-more = no-more
@@ -24,7 +26,8 @@ rising-select test no-more = no-more
 rising-select test (and-then {low = low} {anchor = anchor} h r) =
     by-choice (Rising low) (test anchor) (λ t. and-then h (rising-select test r)) (λ t. rising-from (omega arith) (rising-select test r))
 
-rising-numbered : (low row : ℕ) (frames : List ℕ) → (0 < length frames → low ≤ getD frames 0 0) → Increasing frames → Rising low (numbered row frames)
+rising-numbered : (low row : ℕ) (frames : List ℕ) → (0 < length frames → low ≤ getD frames 0 0) → Increasing frames
+    → Rising low (numbered row frames)
 unfolding numbered
 rising-numbered low row [] h increasing = no-more
 rising-numbered low row (frame ∷ frames) h increasing =

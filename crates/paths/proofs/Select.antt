@@ -25,7 +25,8 @@ select-more test more h [] = le-refl 0
 select-more test more h (anchor ∷ anchors) = go (test anchor) (more anchor) (h anchor) (select-more test more h anchors)
   where
     go : (a b : Bool) → (T a → T b) → length (select test anchors) ≤ length (select more anchors)
-        → length (cond a (anchor ∷ select test anchors) (select test anchors)) ≤ length (cond b (anchor ∷ select more anchors) (select more anchors))
+        → length (cond a (anchor ∷ select test anchors) (select test anchors)) ≤ length
+        (cond b (anchor ∷ select more anchors) (select more anchors))
     go true true i k = omega arith
     go true false i k = absurd (i tt)
     go false true i k = omega arith
@@ -48,7 +49,8 @@ select-select test other (anchor ∷ anchors) = go (test anchor) (select-select 
   where
     go : (b : Bool) → select other (select test anchors) ≡ select (λ (x : Anchor). test x && other x) anchors
         → select other (cond b (anchor ∷ select test anchors) (select test anchors))
-        ≡ cond (b && other anchor) (anchor ∷ select (λ (x : Anchor). test x && other x) anchors) (select (λ (x : Anchor). test x && other x) anchors)
+        ≡ cond (b && other anchor) (anchor ∷ select (λ (x : Anchor). test x && other x) anchors)
+        (select (λ (x : Anchor). test x && other x) anchors)
     go true e = ap (λ (rest : List Anchor). cond (other anchor) (anchor ∷ rest) rest) e
     go false e = e
 
@@ -56,16 +58,19 @@ select-select test other (anchor ∷ anchors) = go (test anchor) (select-select 
 abbrev pub one-if : Bool → ℕ
 one-if b = cond b 1 0
 
-pub select-split : (test left right : Anchor → Bool) → ((anchor : Anchor) → one-if (test anchor) ≡ one-if (left anchor) + one-if (right anchor))
+pub select-split : (test left right : Anchor → Bool)
+    → ((anchor : Anchor) → one-if (test anchor) ≡ one-if (left anchor) + one-if (right anchor))
     → (anchors : List Anchor) → length (select test anchors) ≡ length (select left anchors) + length (select right anchors)
 unfolding select
 select-split test left right h [] = refl
 select-split test left right h (anchor ∷ anchors) =
     go (test anchor) (left anchor) (right anchor) (h anchor) (select-split test left right h anchors)
   where
-    go : (a b c : Bool) → one-if a ≡ one-if b + one-if c → length (select test anchors) ≡ length (select left anchors) + length (select right anchors)
+    go : (a b c : Bool) → one-if a ≡ one-if b + one-if c
+        → length (select test anchors) ≡ length (select left anchors) + length (select right anchors)
         → length (cond a (anchor ∷ select test anchors) (select test anchors))
-        ≡ length (cond b (anchor ∷ select left anchors) (select left anchors)) + length (cond c (anchor ∷ select right anchors) (select right anchors))
+        ≡ length (cond b (anchor ∷ select left anchors) (select left anchors)) + length
+        (cond c (anchor ∷ select right anchors) (select right anchors))
     go true true true e k = omega arith
     go true true false e k = omega arith
     go true false true e k = omega arith

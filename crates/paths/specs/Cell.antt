@@ -1,16 +1,11 @@
 -- Cells of a search, whatever is kept in them, and "a later way replaces only when strictly greater" (document 01).
 use Prim.Native.Nat.{ℕ, zero, suc}
-use mathlib.Core.Bool.{Bool, true, false, cond}
+use mathlib.Core.Bool.{Bool, cond}
 
 -- Nothing reached the cell, or what is kept of the path that did.
 pub data Cell (A : Type 0) : Type 0 where
   empty : Cell A
   held : A → Cell A
-
--- whether something reached the cell
-abbrev pub isHeld : {A : Type 0} → Cell A → Bool
-isHeld empty = false
-isHeld (held a) = true
 
 -- What a later way does to a cell. `less a b` says whether b is strictly greater than a.
 unfoldable pub keep : {A : Type 0} → (A → A → Bool) → Cell A → Cell A → Cell A

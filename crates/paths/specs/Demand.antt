@@ -39,9 +39,9 @@ pub data FirstOf (phrase : Phrase) (columns : List ℕ) (pass : Pass) : List Pas
       → AdmitsNone phrase columns earlier → FirstOf phrase columns pass later → FirstOf phrase columns pass (earlier ∷ later)
 
 -- something holds of each of the passes listed
-pub data Each (P : Pass → Type 0) : List Pass → Type 0 where
-  all-done : Each P []
-  each-of : {pass : Pass} {later : List Pass} → P pass → Each P later → Each P (pass ∷ later)
+pub data EachPass (P : Pass → Type 0) : List Pass → Type 0 where
+  all-done : EachPass P []
+  each-of : {pass : Pass} {later : List Pass} → P pass → EachPass P later → EachPass P (pass ∷ later)
 
 -- "If the record has speech by its edges, a nucleus in its mask, and some pass that admits a path with the candidate's unit count,
 -- the pass named is the first that does, in the stated order. It admits the path chosen, and every other path that it admits for
@@ -56,6 +56,9 @@ pub record Found (phrase : Phrase) (columns : List ℕ) (pass : Pass) (path : Pa
 -- "The answer is 'no path' exactly when speech or a nucleus is lacking, or no pass admits a path of that count; the word is then
 -- 'unvoiced' if no nucleus is in the mask, and 'none' otherwise."
 pub data Demanded (phrase : Phrase) (columns : List ℕ) : Answer → Type 0 where
-  a-path : {pass : Pass} {path : Path} {total : Float} → Found phrase columns pass path total → Demanded phrase columns (found pass path total)
-  no-path : T (hasNucleus phrase) → (T (speaks (phrase .speech)) → Each (AdmitsNone phrase columns) (inOrder phrase)) → Demanded phrase columns none
+  a-path :
+      {pass : Pass} {path : Path} {total : Float} → Found phrase columns pass path total → Demanded phrase columns (found pass path total)
+  no-path :
+      T (hasNucleus phrase) → (T (speaks (phrase .speech)) → EachPass (AdmitsNone phrase columns) (inOrder phrase)) →
+      Demanded phrase columns none
   no-nucleus : T (not (hasNucleus phrase)) → Demanded phrase columns unvoiced

@@ -1,13 +1,9 @@
 -- Frames, the mask and speech counts (document 01, "How a path is scored").
-use Prim.Native.Nat.{ℕ, zero, suc, _+_, _-_, _<_, min}
+use Prim.Native.Nat.{ℕ, zero, suc, _+_, _-_, min}
 use mathlib.Core.Bool.{Bool, not, _&&_, cond}
 use mathlib.Core.List.{List}
 use lib.Dec.{ltb, eqb}
 use lib.ListN.{length, getD}
-
--- A list of frames in strictly increasing order, which number 5 asks of the four lists.
-abbrev pub Increasing : List ℕ → Type 0
-Increasing frames = (i : ℕ) → suc i < length frames → getD frames i 0 < getD frames (suc i) 0
 
 -- "A frame is within the record's mask if it is below F and its byte is not 0."
 unfoldable pub withinMask : List ℕ → ℕ → Bool

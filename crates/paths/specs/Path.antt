@@ -44,7 +44,8 @@ pub data Admitted (q : Problem) : Path → Type 0 where
   gaps : {p : Path} → Admitted q p → suc (end p) < q .size → Admitted q (gap p)
   units : {p : Path} {j : ℕ} → Admitted q p → end p < j → j < q .size → T (q .unitOk (end p) j) → Admitted q (unit p j)
 
--- The start's value with each step applied in path order. "Unit i takes the candidate's i-th column": a unit's number is the count before it.
+-- The start's value with each step applied in path order. "Unit i takes the candidate's i-th column": a unit's number is the count before
+-- it.
 unfoldable pub value : Problem → Path → Float
 unfolding end count
 value q (begin j) = q .start j

@@ -15,7 +15,8 @@ use Rattle.stages.proofs.Parts.{put-here, put-before, put-after, part-part}
 module _ (words spans : List ℕ) (long : length words ≡ wordsLong) (two : length spans ≡ spansLong) where
   pub with-spans-long : length (putMid spanStartsAt spansLong words spans) ≡ wordsLong
   with-spans-long =
-      same-len-mid spanStartsAt spansLong words spans (two ∙ sym (length-take-le spansLong (drop spanStartsAt words) (omega (arith, length-drop spanStartsAt words)))) ∙ long
+      same-len-mid spanStartsAt spansLong words spans
+      (two ∙ sym (length-take-le spansLong (drop spanStartsAt words) (omega (arith, length-drop spanStartsAt words)))) ∙ long
 
   -- the tables before them,
   table-before : (at : ℕ) → at + mostBoundaries ≤ spanStartsAt → tableAt at (putMid spanStartsAt spansLong words spans) ≡ tableAt at words
@@ -26,9 +27,11 @@ module _ (words spans : List ℕ) (long : length words ≡ wordsLong) (two : len
   part-after c m h = put-after spanStartsAt spansLong c m words spans h (omega arith) two
 
   -- and their own
-  pub spans-table : (at : ℕ) → at + mostBoundaries ≤ spansLong → tableAt (spanStartsAt + at) (putMid spanStartsAt spansLong words spans) ≡ tableAt at spans
+  pub spans-table : (at : ℕ) → at + mostBoundaries ≤ spansLong
+      → tableAt (spanStartsAt + at) (putMid spanStartsAt spansLong words spans) ≡ tableAt at spans
   spans-table at h =
-      sym (part-part at mostBoundaries spanStartsAt spansLong (putMid spanStartsAt spansLong words spans) h (omega (arith, with-spans-long)))
+      sym (part-part at mostBoundaries spanStartsAt spansLong (putMid spanStartsAt spansLong words spans) h
+      (omega (arith, with-spans-long)))
       ∙ ap (tableAt at) (put-here spanStartsAt spansLong words spans (omega arith) two)
 
   pub still-searched : {anchors : List Anchor} {bounds : List ℕ} → Searched anchors bounds words

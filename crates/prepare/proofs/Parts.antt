@@ -1,6 +1,6 @@
 -- The parts of an accepted record's phrase are fit for the tables of a stage.
 use Prim.Native.Nat.{ℕ, suc, _+_, _≤_, _<_, _^_}
-use mathlib.Core.Path.{_≡_, sym, ap, subst⁻¹}
+use mathlib.Core.Path.{_≡_, ap, subst⁻¹}
 use mathlib.Core.List.{List}
 use native.Mathlib.Nat.{le-trans}
 use native.Mathlib.Omega.{arith}
@@ -44,10 +44,6 @@ module _ {bytes : List ℕ} {at : Layout} (h : Laid bytes at) where
 
   pub mask-fits : length (phraseOf bytes .mask) < 2 ^ 32
   mask-fits = omega (arith, fit h .fewFrames, own-moderate bytes .frames)
-
-  pub nuclei-first : phraseOf bytes .nuclei .firstRow ≡ 0
-  unfolding phraseAt
-  nuclei-first = ap (λ (p : Phrase). p .nuclei .firstRow) (sym (meaning h))
 
   pub first-row-is : (which : Which) → firstRowIn at which ≡ stageOf which (phraseOf bytes) .firstRow
   unfolding phraseAt

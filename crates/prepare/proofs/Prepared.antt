@@ -18,7 +18,8 @@ duration-at : (stage : Stage) (d : ℕ) → shortestUnit ≤ d → d ≤ longest
     → getD (durationsOf stage) (d - shortestUnit) nan ≡ stage .duration d
 duration-at stage d least most =
     let e : d - shortestUnit + shortestUnit ≡ d = omega arith in
-    table-at (λ i. stage .duration (i + shortestUnit)) durations durations noCost nan (d - shortestUnit) (omega arith) ∙ ap (stage .duration) e
+    table-at (λ i. stage .duration (i + shortestUnit)) durations durations noCost nan (d - shortestUnit) (omega arith)
+    ∙ ap (stage .duration) e
 
 module _ (phrase : Phrase) (stage : Stage) (numbered : phrase .nuclei .firstRow ≡ 0) {lo hi : ℕ} {words : List ℕ} {figures : List Float}
     (worded : StageWords phrase stage lo hi words) (figured : Figured phrase stage figures) where

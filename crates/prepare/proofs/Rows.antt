@@ -5,7 +5,7 @@ use mathlib.Core.Path.{_≡_, refl, sym, ap, _∙_}
 use native.Mathlib.Omega.{arith}
 use lib.ListN.{length, getD, take}
 use lib.Seq.{drop-cons}
-use Rattle.laws.specs.Listed.{padded}
+use Rattle.laws.specs.inner.Tables.{padded}
 use Rattle.frames.specs.declared.span.Span.{Span}
 use Rattle.paths.specs.Anchors.{Anchor, rowOr}
 use Rattle.paths.specs.inner.Ranges.{before, lastOf}
@@ -78,7 +78,8 @@ module _ (listed : List ℕ) (first : ℕ) {mask : List ℕ} {anchors : List Anc
         ap (λ (row : ℕ). edge (spanOf listed bounds lo hi (entryOf listed (row - first)))) (row-is place h)
         ∙ ap (λ (frame : ℕ). edge (spanOf listed bounds lo hi frame)) (is-listed place h .there)
         ∙ sym
-        (ap (λ (some : List Anchor). edge (listedSpan listed bounds lo hi some)) (last-take anchors place (record { frame = 0; row = 0 }) h))
+        (ap (λ (some : List Anchor). edge (listedSpan listed bounds lo hi some))
+        (last-take anchors place (record { frame = 0; row = 0 }) h))
 
     pub span-at : (j : ℕ) → j < length bounds
         → figureBefore (λ i. edge (spanOf listed bounds lo hi (entryOf listed i))) rows first (entryOf places j)

@@ -4,13 +4,12 @@ use mathlib.Core.Path.{_≡_}
 use mathlib.Core.List.{List, [], _∷_}
 use lib.ListN.{length, getD}
 use lib.Ieee.{Float}
-use Rattle.laws.specs.Listed.{tableOf}
+use Rattle.laws.specs.inner.Tables.{tableOf}
 use Rattle.phrase.specs.Phrase.{Phrase, Stage}
 use Rattle.limits.specs.Common.{shortestUnit, durations}
 use Rattle.paths.specs.Anchors.{Anchor, keptIn, kept}
 use Rattle.paths.specs.inner.Ranges.{before, lastOf}
 use Rattle.paths.specs.StageProblem.{boundary}
-use Rattle.paths.specs.Frames.{Increasing}
 use Rattle.spans.specs.Spans.{spanOf}
 use Rattle.frames.specs.declared.span.Span.{Span}
 use Rattle.limits.specs.Capacity.{mostBoundaries}
@@ -36,7 +35,9 @@ durationsOf stage = tableOf (λ i. stage .duration (i + shortestUnit)) durations
 
 -- `exact` fixes every entry of the tables, and `tabled` says what they mean.
 pub record TablesOf (phrase : Phrase) (stage : Stage) (t : StageTables) : Type 0 where
-  pub exact : t ≡ tablesOf (phrase .mask) (phrase .nuclei .anchors) (stage .anchors) (stage .firstRow) (stage .boundaries) (durationsOf stage) (phrase .costs)
+  pub exact : t
+      ≡ tablesOf (phrase .mask) (phrase .nuclei .anchors) (stage .anchors) (stage .firstRow) (stage .boundaries)
+      (durationsOf stage) (phrase .costs)
   pub tabled : Tabled phrase stage t
 
 -- ---- the spans of anchors
@@ -107,5 +108,7 @@ pub record Prepared (phrase : Phrase) (stage : Stage) (lo hi : ℕ) (words : Lis
   pub worded : length words ≡ wordsLong
   pub figured : length figures ≡ figuresLong
   pub tables : TablesOf phrase stage (tablesIn (length (stage .boundaries)) words figures)
-  pub starts : tableAt spanStartsAt words ≡ tableOf (λ j. spanBefore phrase stage lo hi j .start) (length (stage .boundaries)) mostBoundaries 0
-  pub ends : tableAt spanEndsAt words ≡ tableOf (λ j. spanBefore phrase stage lo hi j .end) (length (stage .boundaries)) mostBoundaries 0
+  pub starts : tableAt spanStartsAt words
+      ≡ tableOf (λ j. spanBefore phrase stage lo hi j .start) (length (stage .boundaries)) mostBoundaries 0
+  pub ends : tableAt spanEndsAt words
+      ≡ tableOf (λ j. spanBefore phrase stage lo hi j .end) (length (stage .boundaries)) mostBoundaries 0

@@ -22,7 +22,7 @@ use stages::search::lay_search;
 ghost use mathlib.Core.Path.{_≡_};
 ghost use Prim.Native.Nat.{_+_, _<_, _≤_, _^_};
 ghost use lib.ListN.{length, replicate};
-ghost use Rattle.laws.specs.Listed.{written};
+ghost use Rattle.laws.specs.inner.Tables.{written};
 ghost use Rattle.paths.specs.Anchors.{keptIn, kept};
 ghost use Rattle.record.specs.Meaning.{phraseOf};
 ghost use Rattle.record.specs.inner.Accepted.{Laid};
@@ -56,7 +56,9 @@ fn pick_listed(
     out: &mut [u32],
 )
     requires { ⌜ RowsWithin (now rows) «first_row» (now places) n (length (now list)) × (n ≤ length (now out)) ⌝ }
-    ensures { λ _. ⌜ now (out .exit) ≡ written (λ j. figureBefore (entryOf (now (list .entry))) (now (rows .entry)) «first_row» (entryOf (now (places .entry)) j)) n (now (out .entry)) ⌝ }
+    ensures { λ _. ⌜ now (out .exit)
+        ≡ written (λ j. figureBefore (entryOf (now (list .entry))) (now (rows .entry)) «first_row» (entryOf (now (places .entry)) j)) n
+        (now (out .entry)) ⌝ }
 {
     let mut j = 0;
     while j < n {
@@ -83,8 +85,10 @@ fn lay_spans(
     words: &mut [u32],
 )
     requires { ⌜ FitList mostAnchors (now anchors) × Followed (now anchors) × FitList mostBoundaries (now bounds) ⌝ }
-    requires { ⌜ RowsWithin (now rows) «first_row» (now places) (length (now bounds)) (length (now anchors)) × (now words ≡ replicate spansLong 0) ⌝ }
-    ensures { λ _. ⌜ Spans (now (anchors .entry)) (now (bounds .entry)) «lo_edge» «hi_edge» (now (rows .entry)) «first_row» (now (places .entry)) (now (words .exit)) ⌝ }
+    requires { ⌜ RowsWithin (now rows) «first_row» (now places) (length (now bounds)) (length (now anchors))
+        × (now words ≡ replicate spansLong 0) ⌝ }
+    ensures { λ _. ⌜ Spans (now (anchors .entry)) (now (bounds .entry)) «lo_edge» «hi_edge» (now (rows .entry)) «first_row»
+        (now (places .entry)) (now (words .exit)) ⌝ }
 {
     let n = bounds.len();
     let mut starts = [0u32; MOST_ANCHORS];
@@ -119,7 +123,8 @@ fn lay_words(
 )
     requires { ⌜ Fit (now mask) (now bounds) × FitList mostAnchors (now anchors) × («first_row» + length (now anchors) < 2 ^ 32) ⌝ }
     requires { ⌜ Followed (now anchors) × (length (now words) ≡ wordsLong) ⌝ }
-    ensures { λ _. ⌜ Worded (keptIn (now (mask .entry)) «first_row» (now (anchors .entry))) (now (anchors .entry)) (now (bounds .entry)) «lo_edge» «hi_edge» (now (words .exit)) ⌝ }
+    ensures { λ _. ⌜ Worded (keptIn (now (mask .entry)) «first_row» (now (anchors .entry))) (now (anchors .entry))
+        (now (bounds .entry)) «lo_edge» «hi_edge» (now (words .exit)) ⌝ }
 {
     let mut frames = [ABSENT; ANCHOR_ROOM];
     let mut rows = [0u32; ANCHOR_ROOM];
@@ -158,7 +163,9 @@ fn lay_stage_words(
 )
     requires { ⌜ Laid (now bytes) at ⌝ }
     requires { ⌜ (now bounds ≡ stageOf which (phraseOf (now bytes)) .boundaries) × (length (now words) ≡ wordsLong) ⌝ }
-    ensures { λ _. ⌜ Worded (kept (phraseOf (now (bytes .entry))) (stageOf which (phraseOf (now (bytes .entry))))) (stageOf which (phraseOf (now (bytes .entry))) .anchors) (stageOf which (phraseOf (now (bytes .entry))) .boundaries) «lo_edge» «hi_edge» (now (words .exit)) ⌝ }
+    ensures { λ _. ⌜ Worded (kept (phraseOf (now (bytes .entry))) (stageOf which (phraseOf (now (bytes .entry)))))
+        (stageOf which (phraseOf (now (bytes .entry))) .anchors)
+        (stageOf which (phraseOf (now (bytes .entry))) .boundaries) «lo_edge» «hi_edge» (now (words .exit)) ⌝ }
 {
     let mut anchors = [0u32; MOST_ANCHORS];
     let a = read::anchors(bytes, at, which, &mut anchors);
@@ -218,7 +225,8 @@ pub fn lay_stage(
     requires { ⌜ Laid (now bytes) at ⌝ }
     requires { ⌜ HasTable which (phraseOf (now bytes)) ⌝ }
     requires { ⌜ (length (now words) ≡ wordsLong) × (length (now figures) ≡ figuresLong) ⌝ }
-    ensures { λ _. ⌜ Prepared (phraseOf (now (bytes .entry))) (stageOf which (phraseOf (now (bytes .entry)))) «lo_edge» «hi_edge» (now (words .exit)) (now (figures .exit)) ⌝ }
+    ensures { λ _. ⌜ Prepared (phraseOf (now (bytes .entry))) (stageOf which (phraseOf (now (bytes .entry)))) «lo_edge» «hi_edge»
+        (now (words .exit)) (now (figures .exit)) ⌝ }
 {
     let mut bounds = [0u32; MOST_BOUNDARIES];
     let b = read::boundaries(bytes, at, which, &mut bounds);

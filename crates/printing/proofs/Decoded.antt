@@ -26,9 +26,10 @@ use Rattle.record.proofs.Answers.{refused-first, desk-last}
 use Rattle.entries.specs.Entry.{Entry}
 use Rattle.limits.specs.Sizes.{entryWords, workCells}
 use Rattle.entries.specs.Words.{allWords}
-use Rattle.entries.specs.inner.Placing.{Fit, All}
+use Rattle.laws.specs.theory.Each.{Each}
+use Rattle.entries.specs.inner.Placing.{Fit}
 use Rattle.entries.specs.Ranking.{ranked}
-use Rattle.entries.proofs.Ranks.{all-ranked}
+use Rattle.entries.proofs.Ranks.{each-ranked}
 use Rattle.entries.proofs.RankedLength.{length-ranked}
 use Rattle.decoding.specs.EntryOf.{entryOf, entriesOf}
 use Rattle.decoding.specs.Contract.{outcome, outcomeOf, Decodes}
@@ -54,8 +55,10 @@ module _ (bytes : List ℕ) {best back words : ℕ} (ample : Ample best back wor
       let few = subst (λ (n : ℕ). n ≤ limitsOf bytes .candidates) (candidates-counted bytes) (phrase-fit bytes fine .fewCandidates) in
       let cells = cells-within (own-moderate bytes) in
       ap₂ _||_
-      (ap₂ _||_ (le-ltb best (workCells (limitsOf bytes)) (le-trans cells (ample .values))) (le-ltb back (workCells (limitsOf bytes)) (le-trans cells (ample .marks))))
-      (le-ltb words (layoutOf bytes .candidates .count * entryWords (limitsOf bytes .units)) (le-trans (words-within (own-moderate bytes) few) (ample .entries)))
+      (ap₂ _||_ (le-ltb best (workCells (limitsOf bytes)) (le-trans cells (ample .values)))
+      (le-ltb back (workCells (limitsOf bytes)) (le-trans cells (ample .marks))))
+      (le-ltb words (layoutOf bytes .candidates .count * entryWords (limitsOf bytes .units))
+      (le-trans (words-within (own-moderate bytes) few) (ample .entries)))
 
   -- so what refuses a call is what refuses the record
   own-refusal : refusalWith bytes best back words ≡ refusalOf bytes
@@ -75,8 +78,8 @@ module _ (bytes : List ℕ) (fine : refusalOf bytes ≡ none) where
   abbrev entries : List Entry
   entries = ranked (entriesOf (phraseOf bytes))
 
-  fit : All (Fit most) entries
-  fit = all-ranked (Fit most) (entries-fit bytes fine)
+  fit : Each (Fit most) entries
+  fit = each-ranked (Fit most) (entries-fit bytes fine)
 
   counted : length entries ≡ length (phraseOf bytes .candidates)
   counted = length-ranked (entriesOf (phraseOf bytes)) ∙ length-map (phraseOf bytes .candidates) (entryOf (phraseOf bytes))

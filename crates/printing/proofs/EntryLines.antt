@@ -9,7 +9,8 @@ use lib.Ieee.{binary32, toBits}
 use Rattle.entries.specs.Entry.{ReportedUnit, Entry}
 use Rattle.limits.specs.Sizes.{entryWords}
 use Rattle.entries.specs.Words.{unitWords, wordsOf, allWords}
-use Rattle.entries.specs.inner.Placing.{Fit, All}
+use Rattle.laws.specs.theory.Each.{Each, each-none, each-more}
+use Rattle.entries.specs.inner.Placing.{Fit}
 use Rattle.entries.proofs.EntryWords.{length-wordsOf}
 use Rattle.printing.specs.Listing.{headLine, unitLines, entryLines, allLines}
 use Rattle.printing.specs.inner.InWords.{unitsIn, linesIn, allLinesIn, Whole, AllWhole, none, more}
@@ -35,20 +36,20 @@ module _ (most : ℕ) (e : Entry) (rest : List ℕ) where
   next-entry fit = drop-at (wordsOf most e) rest (entryWords most) (length-wordsOf most e (fit .few))
 
 module _ (most : ℕ) where
-  pub all-lines-in : {es : List Entry} → All (Fit most) es → (rest : List ℕ)
+  pub all-lines-in : {es : List Entry} → Each (Fit most) es → (rest : List ℕ)
       → allLinesIn (entryWords most) (length es) (allWords most es ++ rest) ≡ allLines es
   unfolding allLinesIn allWords allLines
-  all-lines-in All.none rest = refl
-  all-lines-in (All.more {e} {es} fit fits) rest =
+  all-lines-in each-none rest = refl
+  all-lines-in (each-more {x = e} {xs = es} fit fits) rest =
       let later = allWords most es ++ rest in
       ap (allLinesIn (entryWords most) (suc (length es))) (append-assoc (wordsOf most e) (allWords most es) rest)
       ∙ ap₂ _++_ (lines-in most e later) (ap (allLinesIn (entryWords most) (length es)) (next-entry most e later fit)
       ∙ all-lines-in fits rest)
 
-  pub all-whole : {es : List Entry} → All (Fit most) es → (rest : List ℕ) → AllWhole most (length es) (allWords most es ++ rest)
+  pub all-whole : {es : List Entry} → Each (Fit most) es → (rest : List ℕ) → AllWhole most (length es) (allWords most es ++ rest)
   unfolding allWords
-  all-whole All.none rest = none
-  all-whole (All.more {e} {es} fit fits) rest =
+  all-whole each-none rest = none
+  all-whole (each-more {x = e} {xs = es} fit fits) rest =
       let later = allWords most es ++ rest in
       subst (AllWhole most (suc (length es))) (sym (append-assoc (wordsOf most e) (allWords most es) rest))
       (more (whole most e later fit) (subst (AllWhole most (length es)) (sym (next-entry most e later fit)) (all-whole fits rest)))

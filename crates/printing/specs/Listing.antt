@@ -12,13 +12,14 @@ use Rattle.phrase.specs.Phrase.{Phrase}
 use Rattle.record.specs.Refusals.{numberOf, refusalOf}
 use Rattle.record.specs.Meaning.{phraseOf}
 use Rattle.record.specs.declared.refusal.Refusal.{Refusal}
-use Rattle.entries.specs.Entry.{ReportedUnit, Entry, noRow}
+use Rattle.limits.specs.Common.{absent}
+use Rattle.entries.specs.Entry.{ReportedUnit, Entry}
 use Rattle.entries.specs.Ranking.{ranked}
 use Rattle.decoding.specs.EntryOf.{entriesOf}
 
 -- "row or `-`"
 unfoldable pub rowText : ℕ → List ℕ
-rowText row = cond (eqb row noRow) (ascii "-") (decimal row)
+rowText row = cond (eqb row absent) (ascii "-") (decimal row)
 
 -- "and for each unit start, end, row or `-`"
 unfoldable pub unitLine : ReportedUnit → List ℕ

@@ -29,7 +29,8 @@ fn put_row(out: &mut [u8], at: usize, row: u32) -> usize
 
 fn put_unit(out: &mut [u8], at: usize, start: u32, end: u32, row: u32) -> usize
     requires { ⌜ at + unitLineBytes ≤ length (now out) ⌝ }
-    ensures { λ r. ⌜ Puts unitLineBytes (now (out .entry)) at (unitLine (record { start = start; end = end; row = row })) (now (out .exit)) r ⌝ }
+    ensures { λ r. ⌜ Puts unitLineBytes (now (out .entry)) at (unitLine (record { start = start; end = end; row = row }))
+        (now (out .exit)) r ⌝ }
 {
     let after_start = put_decimal(out, at, start);
     let to_end = put(out, after_start, b" ");
@@ -81,7 +82,8 @@ fn put_head(out: &mut [u8], at: usize, id: u32, llr: u32, pass: u32, units: u32)
 fn put_units(out: &mut [u8], at: usize, words: &[u32], count: usize) -> usize
     requires { ⌜ at + unitLineBytes * count ≤ length (now out) ⌝ }
     requires { ⌜ 3 * count ≤ length (now words) ⌝ }
-    ensures { λ r. ⌜ Puts (unitLineBytes * count) (now (out .entry)) at (unitLines (unitsIn count (now (words .entry)))) (now (out .exit)) r ⌝ }
+    ensures { λ r. ⌜ Puts (unitLineBytes * count) (now (out .entry)) at (unitLines (unitsIn count (now (words .entry))))
+        (now (out .exit)) r ⌝ }
 {
     let mut next = at;
     let mut i = 0;
@@ -100,7 +102,8 @@ fn put_units(out: &mut [u8], at: usize, words: &[u32], count: usize) -> usize
 fn put_entry(out: &mut [u8], at: usize, words: &[u32]) -> usize
     requires { ⌜ at + entryBytes (unitsOf (now words)) ≤ length (now out) ⌝ }
     requires { ⌜ entryWords (unitsOf (now words)) ≤ length (now words) ⌝ }
-    ensures { λ r. ⌜ Puts (entryBytes (unitsOf (now (words .entry)))) (now (out .entry)) at (linesIn (now (words .entry))) (now (out .exit)) r ⌝ }
+    ensures { λ r. ⌜ Puts (entryBytes (unitsOf (now (words .entry)))) (now (out .entry)) at (linesIn (now (words .entry)))
+        (now (out .exit)) r ⌝ }
 {
     let count = words[3];
     let to_units = put_head(out, at, words[0], words[1], words[2], count);
@@ -117,7 +120,8 @@ pub(crate) fn put_entries(
 ) -> usize
     requires { ⌜ (most ≤ mostUnits) × (at + entryBytes mostUnits * count ≤ length (now out)) ⌝ }
     requires { ⌜ AllWhole most count (now words) ⌝ }
-    ensures { λ r. ⌜ Puts (entryBytes mostUnits * count) (now (out .entry)) at (allLinesIn (entryWords most) count (now (words .entry))) (now (out .exit)) r ⌝ }
+    ensures { λ r. ⌜ Puts (entryBytes mostUnits * count) (now (out .entry)) at (allLinesIn (entryWords most) count (now (words .entry)))
+        (now (out .exit)) r ⌝ }
 {
     let size = HEAD_WORDS + UNIT_WORDS * most;
     let mut next = at;

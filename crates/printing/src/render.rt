@@ -39,7 +39,8 @@ pub const LISTING_BYTES: usize = FIRST_LINE_BYTES + ENTRY_BYTES * MOST_CANDIDATE
 fn put_decoded(out: &mut [u8], words: &[u32], most: usize, count: u32) -> usize
     requires { ⌜ (most ≤ mostUnits) × (firstLineBytes + entryBytes mostUnits * count ≤ length (now out)) ⌝ }
     requires { ⌜ AllWhole most count (now words) ⌝ }
-    ensures { λ r. ⌜ Puts (firstLineBytes + entryBytes mostUnits * count) (now (out .entry)) 0 (decodedIn (entryWords most) count (now (words .entry))) (now (out .exit)) r ⌝ }
+    ensures { λ r. ⌜ Puts (firstLineBytes + entryBytes mostUnits * count) (now (out .entry)) 0
+        (decodedIn (entryWords most) count (now (words .entry))) (now (out .exit)) r ⌝ }
 {
     let to_count = put(out, 0, b"decoded ");
     let after_count = put_decimal(out, to_count, count);

@@ -29,8 +29,8 @@ u32-drop bytes k at = simp (getD-drop, add-assoc)
 -- the row starts within the record, with room for its columns
 pub row-within : {bytes : List ℕ} {at : Layout} → Laid bytes at → {row : ℕ} → row < length (phraseOf bytes .nuclei .anchors) + length (phraseOf bytes .added .anchors) → at .scores .start + 4 * (row * at .scores .count + at .scores .count) ≤ length bytes
 row-within {bytes} {at} h {row} below =
-    let rows : row < at .nuclei .count + at .anchors .count = omega (arith, section-long bytes {s = at .nuclei} refl (anchors-are h Nuclei), section-long bytes {s = at .anchors} refl (anchors-are h Count)) in
-    omega (arith, sections h .scores, entry-within (at .scores .count) rows, mul-comm (at .scores .count) row, mul-comm (at .scores .count) (at .nuclei .count + at .anchors .count))
+    let rows : row < at .nuclei .count + at .«added_anchors» .count = omega (arith, section-long bytes {s = at .nuclei} refl (anchors-are h Nuclei), section-long bytes {s = at .«added_anchors»} refl (anchors-are h Count)) in
+    omega (arith, sections h .scores, entry-within (at .scores .count) rows, mul-comm (at .scores .count) row, mul-comm (at .scores .count) (at .nuclei .count + at .«added_anchors» .count))
 
 module _ {bytes : List ℕ} {at : Layout} (h : Laid bytes at) {row : ℕ} (below : row < length (phraseOf bytes .nuclei .anchors) + length (phraseOf bytes .added .anchors)) where
   row-entry : (column : ℕ) → f32At (drop (rowStart at row) bytes) (4 * column) ≡ phraseOf bytes .score row column

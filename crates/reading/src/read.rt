@@ -62,7 +62,7 @@ fn anchor_section(at: Layout, which: Which) -> Section
 {
     match which {
         Which::Nuclei => at.nuclei,
-        Which::Count => at.anchors,
+        Which::Count => at.added_anchors,
     }
 }
 
@@ -71,7 +71,7 @@ fn boundary_section(at: Layout, which: Which) -> Section
 {
     match which {
         Which::Nuclei => at.boundaries,
-        Which::Count => at.added,
+        Which::Count => at.added_boundaries,
     }
 }
 

@@ -18,11 +18,11 @@ use Rattle.limits.specs.inner.Moderate.{Moderate}
 use Rattle.limits.proofs.Editions.{moderate}
 use Rattle.phrase.specs.Phrase.{Candidate}
 use Rattle.record.specs.Bytes.{u32At, u64At}
-use Rattle.record.specs.Format.{trailerBytes, recordBytes}
+use Rattle.record.specs.Format.{trailerBytes, recordBytes, insertionAt, unvoicedAt}
 use Rattle.record.specs.inner.Bounds.{Sized, Counted}
 use Rattle.record.specs.Layout.{trailerOf, layoutFrom, layoutOf, limitsOf, limitsAt}
-use Rattle.limits.specs.Common.{absent}
-use Rattle.record.specs.Conditions.{badList, badMask, badEdges, badTrack, speechStart, speechEnd, thousand, million, firstTable, secondTable, f32At, f64At, badScores, badTable, badCost, idAt, unitsAt, columnAt}
+use Rattle.limits.specs.Common.{absent, million, thousand}
+use Rattle.record.specs.Conditions.{badList, badMask, badEdges, badTrack, speechStart, speechEnd, firstTable, secondTable, f32At, f64At, badScores, badTable, badCost, idAt, unitsAt, columnAt}
 use Rattle.record.specs.Refusals.{ownRules, refusalOf}
 use Rattle.record.specs.Meaning.{maskAt, framesAt, durationAt, candidateAt, phraseAt, phraseOf}
 use Rattle.record.specs.inner.Accepted.{Laid, StageFit, CandidateFit, Fit}
@@ -42,8 +42,8 @@ counted l bytes s =
       frames = s .frames;
       nuclei = s .nuclei;
       boundaries = s .boundaries;
-      anchors = s .anchors;
-      added = s .added;
+      addedAnchors = s .addedAnchors;
+      addedBoundaries = s .addedBoundaries;
       columns = s .columns;
       candidates = s .candidates;
       someColumn = s .someColumn;
@@ -55,8 +55,8 @@ record Tracked (bytes : List ℕ) (at : Layout) : Type 0 where
   mask : badMask bytes (at .mask) ≡ false
   nuclei : badList bytes (at .nuclei) ≡ false
   boundaries : badList bytes (at .boundaries) ≡ false
-  anchors : badList bytes (at .anchors) ≡ false
-  added : badList bytes (at .added) ≡ false
+  addedAnchors : badList bytes (at .«added_anchors») ≡ false
+  addedBoundaries : badList bytes (at .«added_boundaries») ≡ false
   speech : badEdges (speechStart bytes (at .costs)) (speechEnd bytes (at .costs)) ≡ false
 
 tracked : (bytes : List ℕ) (at : Layout) → badTrack bytes at ≡ false → Tracked bytes at
@@ -66,19 +66,19 @@ tracked bytes at e =
       mask = search (neither-left, neither-right) depth 8;
       nuclei = search (neither-left, neither-right) depth 8;
       boundaries = search (neither-left, neither-right) depth 8;
-      anchors = search (neither-left, neither-right) depth 8;
-      added = search (neither-left, neither-right) depth 8;
+      addedAnchors = search (neither-left, neither-right) depth 8;
+      addedBoundaries = search (neither-left, neither-right) depth 8;
       speech = search (neither-left, neither-right) depth 8;
     }
 
 -- condition 6, part by part
 record Priced (bytes : List ℕ) (at : Layout) : Type 0 where
-  scores : badScores bytes (at .scores .start) ((at .nuclei .count + at .anchors .count) * at .scores .count) ≡ false
+  scores : badScores bytes (at .scores .start) ((at .nuclei .count + at .«added_anchors» .count) * at .scores .count) ≡ false
   perFrame : not (within thousand (f64At bytes (at .costs))) ≡ false
-  insertion : not (within thousand (f64At bytes (at .costs + 8))) ≡ false
-  unvoiced : not (within million (f32At bytes (at .costs + 16))) ≡ false
+  insertion : not (within thousand (f64At bytes (at .costs + insertionAt))) ≡ false
+  unvoiced : not (within million (f32At bytes (at .costs + unvoicedAt))) ≡ false
   first : badTable bytes (firstTable (at .costs)) ≡ false
-  second : (ltb 0 (at .anchors .count) && badTable bytes (secondTable (at .costs))) ≡ false
+  second : (ltb 0 (at .«added_anchors» .count) && badTable bytes (secondTable (at .costs))) ≡ false
 
 priced : (bytes : List ℕ) (at : Layout) → badCost bytes at ≡ false → Priced bytes at
 unfolding badCost
@@ -127,7 +127,7 @@ module _ (l : Limits) (bytes : List ℕ) (p : Passed l bytes) where
       let r = priced bytes at (p .cost) in
       let n = counted l bytes (sized l (trailerOf bytes) (p .size)) in
       let long = length-listed (candidateAt l bytes at) (at .candidates .count) in
-      let anchors : length (framesAt bytes (at .anchors)) ≡ at .anchors .count = length-listed _ _ in
+      let anchors : length (framesAt bytes (at .«added_anchors»)) ≡ at .«added_anchors» .count = length-listed _ _ in
       let nuclei : length (framesAt bytes (at .nuclei)) ≡ at .nuclei .count = length-listed _ _ in
       let mask : length (maskAt bytes (at .mask)) ≡ at .mask .count = length-listed _ _ in
       record {
@@ -136,20 +136,21 @@ module _ (l : Limits) (bytes : List ℕ) (p : Passed l bytes) where
             let inside = subst (λ (k : ℕ). i < k) mask below in
             subst (λ (k : ℕ). k ≤ 1) (sym (getD-listed _ _ i 0 inside)) (ltb-false _ _ (none-below _ _ (t .mask) i inside));
         nuclei = stage-fit bytes (at .nuclei) (at .boundaries) _ _ _ _ (t .nuclei) (t .boundaries) (n .nuclei) (n .boundaries);
-        added = stage-fit bytes (at .anchors) (at .added) _ _ _ _ (t .anchors) (t .added) (n .anchors) (n .added);
-        nothingAdded = λ none. length-listed _ (at .added .count) ∙ n .nothingAdded (sym anchors ∙ none);
+        added = stage-fit bytes (at .«added_anchors») (at .«added_boundaries») _ _ _ _
+            (t .addedAnchors) (t .addedBoundaries) (n .addedAnchors) (n .addedBoundaries);
+        nothingAdded = λ none. length-listed _ (at .«added_boundaries» .count) ∙ n .nothingAdded (sym anchors ∙ none);
         speech = λ start end e. edges-fit (eqb (speechStart bytes (at .costs)) absent && eqb (speechEnd bytes (at .costs)) absent) (speechStart bytes (at .costs)) (speechEnd bytes (at .costs)) start end (t .speech) e;
         someColumn = n .someColumn;
         fewColumns = n .columns;
         scores = λ row column below inside.
-            let rows : row < at .nuclei .count + at .anchors .count = omega arith in
+            let rows : row < at .nuclei .count + at .«added_anchors» .count = omega arith in
             score-fits (u32At bytes (at .scores .start + 4 * (row * at .scores .count + column))) (none-below _ _ (r .scores) (row * at .scores .count + column) (digits-lt rows inside));
         perFrame = cost-fits (u64At bytes (at .costs)) (r .perFrame);
-        insertion = cost-fits (u64At bytes (at .costs + 8)) (r .insertion);
-        unvoiced = score-fits (u32At bytes (at .costs + 16)) (r .unvoiced);
+        insertion = cost-fits (u64At bytes (at .costs + insertionAt)) (r .insertion);
+        unvoiced = score-fits (u32At bytes (at .costs + unvoicedAt)) (r .unvoiced);
         durations = table-fits bytes (firstTable (at .costs)) (r .first);
         addedDurations = λ some.
-            table-fits bytes (secondTable (at .costs)) (and-fails _ _ (r .second) (lt-ltb 0 (at .anchors .count) (omega arith)));
+            table-fits bytes (secondTable (at .costs)) (and-fails _ _ (r .second) (lt-ltb 0 (at .«added_anchors» .count) (omega arith)));
         someCandidate = subst (λ (k : ℕ). 0 < k) (sym long) (not-zero _ (p .bare));
         fewCandidates = subst (λ (k : ℕ). k ≤ l .candidates) (sym long) (n .candidates);
         candidates = λ i other below.

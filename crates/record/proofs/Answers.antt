@@ -11,7 +11,8 @@ use Rattle.laws.specs.Rules.{Rule, rule, firstOf}
 use Rattle.laws.proofs.Rules.{first-speaks, second-speaks}
 use Rattle.record.specs.Layout.{layoutOf, limitsOf, limitsAt}
 use Rattle.record.specs.Conditions.{shortDesk}
-use Rattle.record.specs.Refusals.{trailerRules, contentRules, firstRules, candidateRules, ownRules, refusalOf, refusalWith, answer, checkedOf, checkedWith}
+use Rattle.record.specs.Refusals.{trailerRules, contentRules, firstRules, candidateRules, ownRules, refusalOf, refusalWith}
+use Rattle.record.specs.inner.Checks.{answer, checkedOf, checkedWith}
 use Rattle.record.specs.inner.Accepted.{Laid}
 use Rattle.limits.specs.declared.edition.Limits.{Limits}
 use Rattle.record.specs.declared.layout.Layout.{Layout}

@@ -19,12 +19,12 @@ use Rattle.ieee.specs.inner.Value.{Within}
 use Rattle.ieee.proofs.Magnitude.{whole-within, between-within, range-within, neg-within, weaken}
 use Rattle.phrase.specs.Phrase.{silent, spoken}
 use Rattle.record.specs.Bytes.{u64At}
-use Rattle.limits.specs.Common.{lastFrame, shortestUnit, longestUnit, durations}
-use Rattle.record.specs.Conditions.{frameAt, lateFrame, unordered, badList, thousand, million, isDuration, badTable}
+use Rattle.limits.specs.Common.{lastFrame, shortestUnit, longestUnit, durations, largestFigure, largestCost, million, thousand}
+use Rattle.record.specs.Conditions.{frameAt, lateFrame, unordered, badList, isDuration, badTable}
 use Rattle.record.specs.Meaning.{framesAt, durationAt}
 use Rattle.record.specs.inner.Accepted.{Frames}
 use Rattle.record.specs.declared.layout.Section.{Section}
-use Rattle.record.proofs.Figures.{million-whole}
+use Rattle.limits.proofs.Figures.{million-whole}
 use Rattle.record.proofs.Below.{none-below}
 
 -- ---- lists of frames
@@ -61,22 +61,23 @@ module _ (bytes : List ℕ) (s : Section) (fine : badList bytes s ≡ false) whe
 held : (b : Bool) → not b ≡ false → T b
 held b e = subst⁻¹ T (not-false b e) tt
 
-million-32-within : Within binary32 million 1000000
-million-32-within = subst (λ (x : Float). Within binary32 x 1000000) million-whole (whole-within binary32 1000000 (lit≤ tt))
+million-32-within : Within binary32 million largestFigure
+million-32-within = subst (λ (x : Float). Within binary32 x largestFigure) million-whole (whole-within binary32 largestFigure (lit≤ tt))
 
-pub score-fits : (p : ℕ) → not (within million (ofBits binary32 p)) ≡ false → Within binary32 (ofBits binary32 p) 1000000
+pub score-fits : (p : ℕ) → not (within million (ofBits binary32 p)) ≡ false → Within binary32 (ofBits binary32 p) largestFigure
 score-fits p e = between-within million-32-within (ofBits binary32 p) (ofBits-fits binary32 p) (held (within million (ofBits binary32 p)) e)
 
-pub cost-fits : (p : ℕ) → not (within thousand (ofBits binary64 p)) ≡ false → Within binary64 (ofBits binary64 p) 1000
-cost-fits p e = between-within (whole-within binary64 1000 (lit≤ tt)) (ofBits binary64 p) (ofBits-fits binary64 p) (held (within thousand (ofBits binary64 p)) e)
+pub cost-fits : (p : ℕ) → not (within thousand (ofBits binary64 p)) ≡ false → Within binary64 (ofBits binary64 p) largestCost
+cost-fits p e = between-within (whole-within binary64 largestCost (lit≤ tt)) (ofBits binary64 p) (ofBits-fits binary64 p) (held (within thousand (ofBits binary64 p)) e)
 
-pub duration-fits : (p : ℕ) → not (isDuration (ofBits binary64 p)) ≡ false → Within binary64 (ofBits binary64 p) 1000000
+pub duration-fits : (p : ℕ) → not (isDuration (ofBits binary64 p)) ≡ false → Within binary64 (ofBits binary64 p) largestFigure
 duration-fits p e =
-    range-within (neg-within (whole-within binary64 1000000 (lit≤ tt))) (weaken 1000000 (lit≤ tt) (whole-within binary64 0 (lit≤ tt)))
+    range-within (neg-within (whole-within binary64 largestFigure (lit≤ tt)))
+    (weaken largestFigure (lit≤ tt) (whole-within binary64 0 (lit≤ tt)))
     (ofBits binary64 p) (ofBits-fits binary64 p) (held (isDuration (ofBits binary64 p)) e)
 
 -- an entry of a table by its number of frames
-pub table-fits : (bytes : List ℕ) (table : ℕ) → badTable bytes table ≡ false → (frames : ℕ) → shortestUnit ≤ frames → frames ≤ longestUnit → Within binary64 (durationAt bytes table frames) 1000000
+pub table-fits : (bytes : List ℕ) (table : ℕ) → badTable bytes table ≡ false → (frames : ℕ) → shortestUnit ≤ frames → frames ≤ longestUnit → Within binary64 (durationAt bytes table frames) largestFigure
 table-fits bytes table e frames least most = duration-fits (u64At bytes (table + 8 * (frames - shortestUnit))) (none-below _ durations e (frames - shortestUnit) (omega arith))
 
 -- ---- speech

@@ -19,7 +19,8 @@ use Rattle.ieee.proofs.Value.{finite-number}
 use Rattle.ieee.specs.inner.Value as Fine
 use Rattle.phrase.specs.Phrase.{Phrase}
 use Rattle.record.specs.inner.Bounds.{Reaching, Within, CandidatesRead}
-use Rattle.limits.specs.Common.{shortestUnit, longestUnit}
+use Rattle.limits.specs.Common.{shortestUnit, longestUnit, largestFigure}
+use Rattle.record.specs.Format.{tableBytes}
 use Rattle.record.specs.Layout.{trailerStart, trailerOf, layoutFrom, layoutOf, limitsOf, limitsAt}
 use Rattle.record.specs.Conditions.{overreaching}
 use Rattle.record.specs.Refusals.{trailerRules}
@@ -85,11 +86,11 @@ module _ {bytes : List ℕ} {at : Layout} (h : Laid bytes at) where
 module _ {bytes : List ℕ} {at : Layout} (h : Laid bytes at) where
   pub anchors-within : (which : Which) → anchorSection which at .start + 4 * anchorSection which at .count ≤ length bytes
   anchors-within Nuclei = sections h .nuclei
-  anchors-within Count = sections h .anchors
+  anchors-within Count = sections h .addedAnchors
 
   pub boundaries-within : (which : Which) → boundarySection which at .start + 4 * boundarySection which at .count ≤ length bytes
   boundaries-within Nuclei = sections h .boundaries
-  boundaries-within Count = sections h .added
+  boundaries-within Count = sections h .addedBoundaries
 
   pub anchors-are : (which : Which) → framesAt bytes (anchorSection which at) ≡ stageOf which (phraseOf bytes) .anchors
   unfolding phraseAt
@@ -101,7 +102,7 @@ module _ {bytes : List ℕ} {at : Layout} (h : Laid bytes at) where
   boundaries-are Nuclei = ap (λ (p : Phrase). p .nuclei .boundaries) (meaning h)
   boundaries-are Count = ap (λ (p : Phrase). p .added .boundaries) (meaning h)
 
-  pub table-within : (which : Which) → tableStart which at + 600 ≤ length bytes
+  pub table-within : (which : Which) → tableStart which at + tableBytes ≤ length bytes
   table-within Nuclei = omega (arith, sections h .costs)
   table-within Count = omega (arith, sections h .costs)
 
@@ -110,9 +111,9 @@ module _ {bytes : List ℕ} {at : Layout} (h : Laid bytes at) where
   duration-is Nuclei frames = ap (λ (p : Phrase). p .nuclei .duration frames) (meaning h)
   duration-is Count frames = ap (λ (p : Phrase). p .added .duration frames) (meaning h)
 
-  pub duration-within : (which : Which) → HasTable which (phraseOf bytes) → (frames : ℕ) → shortestUnit ≤ frames → frames ≤ longestUnit → Fine.Within binary64 (durationAt bytes (tableStart which at) frames) 1000000
-  duration-within Nuclei has frames least most = subst⁻¹ (λ (x : Float). Fine.Within binary64 x 1000000) (duration-is Nuclei frames) (fit h .durations frames least most)
-  duration-within Count has frames least most = subst⁻¹ (λ (x : Float). Fine.Within binary64 x 1000000) (duration-is Count frames) (fit h .addedDurations has frames least most)
+  pub duration-within : (which : Which) → HasTable which (phraseOf bytes) → (frames : ℕ) → shortestUnit ≤ frames → frames ≤ longestUnit → Fine.Within binary64 (durationAt bytes (tableStart which at) frames) largestFigure
+  duration-within Nuclei has frames least most = subst⁻¹ (λ (x : Float). Fine.Within binary64 x largestFigure) (duration-is Nuclei frames) (fit h .durations frames least most)
+  duration-within Count has frames least most = subst⁻¹ (λ (x : Float). Fine.Within binary64 x largestFigure) (duration-is Count frames) (fit h .addedDurations has frames least most)
 
 -- ---- candidates
 

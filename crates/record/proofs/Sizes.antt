@@ -18,7 +18,7 @@ use Rattle.limits.specs.declared.edition.Limits.{Limits}
 use Rattle.record.specs.declared.trailer.Trailer.{Trailer}
 
 -- the most a score section and a candidate section have in an edition of moderate numbers
-pub scores-most : {l : Limits} {t : Trailer} → Moderate l → Sized l t → (t .nuclei .count + t .anchors .count) * t .scores .count ≤ 2 * mostAnchors * mostCount
+pub scores-most : {l : Limits} {t : Trailer} → Moderate l → Sized l t → (t .nuclei .count + t .«added_anchors» .count) * t .scores .count ≤ 2 * mostAnchors * mostCount
 scores-most m s = mul-le-mul {n₂ = 2 * mostAnchors} {m₂ = mostCount} (omega arith) (omega arith)
 
 pub candidates-most : {l : Limits} {t : Trailer} → Moderate l → Sized l t → candidateBytes l * t .candidates .count ≤ (columnsAt + mostUnits) * mostCount
@@ -31,15 +31,17 @@ sized l t e =
       frames = search (neither-left, neither-right, ltb-false) depth 12;
       nuclei = search (neither-left, neither-right, ltb-false) depth 12;
       boundaries = search (neither-left, neither-right, ltb-false) depth 12;
-      anchors = search (neither-left, neither-right, ltb-false) depth 12;
-      added = search (neither-left, neither-right, ltb-false) depth 12;
+      addedAnchors = search (neither-left, neither-right, ltb-false) depth 12;
+      addedBoundaries = search (neither-left, neither-right, ltb-false) depth 12;
       columns = search (neither-left, neither-right, ltb-false) depth 12;
       candidates = search (neither-left, neither-right, ltb-false) depth 12;
       someColumn = search (neither-left, neither-right, not-zero) depth 12;
       nothingAdded =
           λ none.
-          let both : (eqb (t .anchors .count) 0 && ltb 0 (t .added .count)) ≡ false = search (neither-left, neither-right) in
-          let most : t .added .count ≤ 0 = ltb-false 0 (t .added .count) (and-fails _ _ both (eq-eqb (t .anchors .count) 0 none)) in
+          let both : (eqb (t .«added_anchors» .count) 0 && ltb 0 (t .«added_boundaries» .count)) ≡ false =
+          search (neither-left, neither-right) in
+          let most : t .«added_boundaries» .count ≤ 0 =
+          ltb-false 0 (t .«added_boundaries» .count) (and-fails _ _ both (eq-eqb (t .«added_anchors» .count) 0 none)) in
           omega arith;
     }
 
@@ -53,8 +55,8 @@ reaching l end t e =
       mask = reaches _ _ _ (search (neither-left, neither-right) depth 12);
       nuclei = reaches _ _ _ (search (neither-left, neither-right) depth 12);
       boundaries = reaches _ _ _ (search (neither-left, neither-right) depth 12);
-      anchors = reaches _ _ _ (search (neither-left, neither-right) depth 12);
-      added = reaches _ _ _ (search (neither-left, neither-right) depth 12);
+      addedAnchors = reaches _ _ _ (search (neither-left, neither-right) depth 12);
+      addedBoundaries = reaches _ _ _ (search (neither-left, neither-right) depth 12);
       scores = reaches _ _ _ (search (neither-left, neither-right) depth 12);
       candidates = reaches _ _ _ (search (neither-left, neither-right) depth 12);
       costs = reaches _ _ _ (search (neither-left, neither-right) depth 12);
@@ -66,8 +68,8 @@ inside l end t r =
       mask = r .mask .inside;
       nuclei = r .nuclei .inside;
       boundaries = r .boundaries .inside;
-      anchors = r .anchors .inside;
-      added = r .added .inside;
+      addedAnchors = r .addedAnchors .inside;
+      addedBoundaries = r .addedBoundaries .inside;
       scores = r .scores .inside;
       candidates = r .candidates .inside;
       costs = r .costs .inside;
@@ -84,8 +86,8 @@ within-layout l end long t r fits =
       mask = ends (r .mask) fits;
       nuclei = ends (r .nuclei) fits;
       boundaries = ends (r .boundaries) fits;
-      anchors = ends (r .anchors) fits;
-      added = ends (r .added) fits;
+      addedAnchors = ends (r .addedAnchors) fits;
+      addedBoundaries = ends (r .addedBoundaries) fits;
       scores = ends (r .scores) fits;
       costs = ends (r .costs) fits;
     }

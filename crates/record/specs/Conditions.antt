@@ -11,7 +11,7 @@ use Rattle.limits.specs.Sizes.{countAt, columnsAt, candidateBytes, entryWords, 
 use Rattle.record.specs.Bytes.{byteAt, u32At, u64At}
 use Rattle.record.specs.Below.{anyBelow}
 use Rattle.ieee.specs.Range.{between, within}
-use Rattle.limits.specs.Common.{lastFrame, absent, durations}
+use Rattle.limits.specs.Common.{lastFrame, absent, durations, million, thousand}
 use Rattle.record.specs.Format.{trailerBytes, recordBytes, listBytes, scoreBytes, costsBytes, insertionAt, unvoicedAt, speechStartAt, speechEndAt, firstTableAt, secondTableAt}
 use Rattle.limits.specs.declared.edition.Limits.{Limits}
 use Rattle.record.specs.declared.trailer.Trailer.{Trailer}
@@ -34,12 +34,12 @@ oversized l t =
     ltb (l .frames) (t .mask .count)
     || ltb (l .nuclei) (t .nuclei .count)
     || ltb (l .boundaries) (t .boundaries .count)
-    || ltb (l .anchors) (t .anchors .count)
-    || ltb (l .boundaries) (t .added .count)
+    || ltb (l .anchors) (t .«added_anchors» .count)
+    || ltb (l .boundaries) (t .«added_boundaries» .count)
     || ltb (l .columns) (t .scores .count)
     || ltb (l .candidates) (t .candidates .count)
     || eqb (t .scores .count) 0
-    || (eqb (t .anchors .count) 0 && ltb 0 (t .added .count))
+    || (eqb (t .«added_anchors» .count) 0 && ltb 0 (t .«added_boundaries» .count))
 
 -- 4, reach: "a section not wholly before the trailer". A back pointer "must be at least the section's length and at most the bytes before the trailer".
 abbrev pub outside : ℕ → ℕ → ℕ → Bool
@@ -50,9 +50,9 @@ overreaching l end t =
     outside end (t .mask .count) (t .mask .back)
     || outside end (listBytes (t .nuclei .count)) (t .nuclei .back)
     || outside end (listBytes (t .boundaries .count)) (t .boundaries .back)
-    || outside end (listBytes (t .anchors .count)) (t .anchors .back)
-    || outside end (listBytes (t .added .count)) (t .added .back)
-    || outside end (scoreBytes (t .nuclei .count) (t .anchors .count) (t .scores .count)) (t .scores .back)
+    || outside end (listBytes (t .«added_anchors» .count)) (t .«added_anchors» .back)
+    || outside end (listBytes (t .«added_boundaries» .count)) (t .«added_boundaries» .back)
+    || outside end (scoreBytes (t .nuclei .count) (t .«added_anchors» .count) (t .scores .count)) (t .scores .back)
     || outside end (candidateBytes l * t .candidates .count) (t .candidates .back)
     || outside end costsBytes (t .costs)
 
@@ -89,17 +89,11 @@ badTrack bytes at =
     badMask bytes (at .mask)
     || badList bytes (at .nuclei)
     || badList bytes (at .boundaries)
-    || badList bytes (at .anchors)
-    || badList bytes (at .added)
+    || badList bytes (at .«added_anchors»)
+    || badList bytes (at .«added_boundaries»)
     || badEdges (speechStart bytes (at .costs)) (speechEnd bytes (at .costs))
 
 -- ---- 6, cost: "a float not finite or outside its range"
-
-abbrev pub thousand : Float
-thousand = ofInt binary64 (pos 1000)
-
-abbrev pub million : Float
-million = ofInt binary64 (pos 1000000)
 
 abbrev pub f32At : List ℕ → ℕ → Float
 f32At bytes at = ofBits binary32 (u32At bytes at)
@@ -133,10 +127,10 @@ badTable bytes table = anyBelow (λ i. not (isDuration (f64At bytes (table + 8 *
 -- "The second table belongs to the added stage and is unchecked where A = 0."
 unfoldable pub badCost : List ℕ → Layout → Bool
 badCost bytes at =
-    badScores bytes (at .scores .start) ((at .nuclei .count + at .anchors .count) * at .scores .count)
+    badScores bytes (at .scores .start) ((at .nuclei .count + at .«added_anchors» .count) * at .scores .count)
     || badFigures bytes (at .costs)
     || badTable bytes (firstTable (at .costs))
-    || (ltb 0 (at .anchors .count) && badTable bytes (secondTable (at .costs)))
+    || (ltb 0 (at .«added_anchors» .count) && badTable bytes (secondTable (at .costs)))
 
 -- ---- 7 to 10: candidates. "Candidate, 24 bytes: u32 id, u32 unit count k, sixteen column bytes of which the first k are used."
 

@@ -58,9 +58,9 @@ phraseAt l bytes at =
           };
       added =
           record {
-            anchors = framesAt bytes (at .anchors);
+            anchors = framesAt bytes (at .«added_anchors»);
             firstRow = at .nuclei .count;
-            boundaries = framesAt bytes (at .added);
+            boundaries = framesAt bytes (at .«added_boundaries»);
             duration = durationAt bytes (secondTable (at .costs));
           };
       score = scoreAt bytes (at .scores);

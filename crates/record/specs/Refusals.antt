@@ -2,16 +2,13 @@
 -- condition holds names the refusal.
 use Prim.Native.Nat.{ℕ, zero, suc}
 use mathlib.Core.List.{List, [], _∷_, _++_}
-use mathlib.Core.Option.{Option, none, some}
+use mathlib.Core.Option.{Option}
 use Rattle.laws.specs.Rules.{Rule, rule, firstOf}
 use Rattle.record.specs.Layout.{trailerStart, trailerOf, layoutOf, limitsOf}
 use Rattle.record.specs.Conditions.{stub, otherEdition, oversized, overreaching, badTrack, badCost, bare, repeated, badUnits, badColumn, shortDesk}
 use Rattle.limits.specs.declared.edition.Limits.{Limits}
-use Rattle.record.specs.declared.layout.Layout.{Layout}
 use Rattle.record.specs.declared.refusal.Refusal.{Refusal}
 use Rattle.record.specs.declared.refusal.Refusal.the-variants.{Stub, Edition, Size, Reach, Track, Cost, Bare, Twice, Units, Column, Desk}
-use Rattle.record.specs.declared.refusal.Checked.{Checked}
-use Rattle.record.specs.declared.refusal.Checked.the-variants.{Refused, Accepted}
 
 -- the numbers of the table "What the decoder says no with"
 abbrev pub numberOf : Refusal → ℕ
@@ -68,14 +65,3 @@ refusalOf bytes = firstOf (ownRules (limitsOf bytes) bytes)
 unfoldable pub refusalWith : List ℕ → ℕ → ℕ → ℕ → Option Refusal
 refusalWith bytes best back out =
     firstOf (ownRules (limitsOf bytes) bytes ++ (rule Desk (shortDesk (limitsOf bytes) (layoutOf bytes .candidates .count) best back out) ∷ []))
-
--- What a check answers: the refusal, or the layout of an accepted record.
-abbrev pub answer : Option Refusal → Layout → Checked
-answer none at = Accepted at
-answer (some q) at = Refused q
-
-abbrev pub checkedOf : List ℕ → Checked
-checkedOf bytes = answer (refusalOf bytes) (layoutOf bytes)
-
-abbrev pub checkedWith : List ℕ → ℕ → ℕ → ℕ → Checked
-checkedWith bytes best back out = answer (refusalWith bytes best back out) (layoutOf bytes)

@@ -2,3 +2,4 @@
 pub mod Accepted
 pub mod Bounds
 pub mod Reading
+pub mod Checks

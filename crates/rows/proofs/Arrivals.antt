@@ -1,10 +1,10 @@
 -- What the units out of a row bring, origin by origin. Assumes nothing.
-use mathlib.Core.Bool.{Bool, true, false, cond}
+use mathlib.Core.Bool.{Bool, true, false}
 use mathlib.Core.Logic.{_⊎_, inl, inr}
-use mathlib.Core.Path.{_≡_, refl, sym, ap, subst, _∙_}
+use mathlib.Core.Path.{_≡_, refl, sym, ap, _∙_}
 use Prim.Native.Nat.{ℕ, zero, suc, _+_, _≤_, _<_}
 use native.Mathlib.Omega.{arith}
-use lib.Ieee.{Float, binary64, add}
+use lib.Ieee.{binary64, add}
 use Rattle.paths.specs.Problem.{Problem}
 use Rattle.paths.specs.Cell.{Cell, empty, held, keep, best as bestOf, carry, only}
 use Rattle.paths.specs.CellRule.{Keeping, arrival, sweep}
@@ -44,7 +44,8 @@ module _ (q : Problem) (s : ℕ) (cells : ℕ → Cell Marked) (j : ℕ) where
   pub brought-past : (m n : ℕ) → ((i : ℕ) → m ≤ i → i < m + n → Idle i) → brought q s cells j (m + n) ≡ brought q s cells j m
   brought-past m zero idle = ap (brought q s cells j) (omega arith)
   brought-past m (suc n) idle =
-      ap (brought q s cells j) (omega arith) ∙ brought-idle (m + n) (idle (m + n) (omega arith) (omega arith)) ∙ brought-past m n (λ i h k. idle i h (omega arith))
+      ap (brought q s cells j) (omega arith) ∙ brought-idle (m + n) (idle (m + n) (omega arith) (omega arith))
+      ∙ brought-past m n (λ i h k. idle i h (omega arith))
 
   -- a unit that is admitted, from a boundary that was reached
   pub record Arrives (i : ℕ) (way : Way) : Type 0 where
@@ -59,7 +60,8 @@ module _ (q : Problem) (s : ℕ) (cells : ℕ → Cell Marked) (j : ℕ) where
   brought-unit i a = rw (a .is, a .ok, a .there)
 
   -- the first that arrives
-  pub brought-first : (i : ℕ) {way : Way} → brought q s cells j i ≡ empty → Arrives i way → brought q s cells j (suc i) ≡ held (markedBy way)
+  pub brought-first : (i : ℕ) {way : Way} → brought q s cells j i ≡ empty → Arrives i way
+      → brought q s cells j (suc i) ≡ held (markedBy way)
   unfolding keep
   brought-first i {way} e a = brought-unit i a ∙ ap (λ (c : Cell Marked). keep higher c (held (markedBy way))) e
 
@@ -72,7 +74,8 @@ module _ (q : Problem) (s : ℕ) (cells : ℕ → Cell Marked) (j : ℕ) where
   brought-each way (suc n) i kept e arrives =
       ap (brought q s cells j) (omega arith)
       ∙ brought-each way n (suc i) (orLater kept (way i))
-      (brought-unit i (arrives i (omega arith) (omega arith)) ∙ ap (λ (c : Cell Marked). keep higher c (held (markedBy (way i)))) e ∙ sym (or-keeps kept (way i)))
+      (brought-unit i (arrives i (omega arith) (omega arith)) ∙ ap (λ (c : Cell Marked). keep higher c (held (markedBy (way i)))) e
+      ∙ sym (or-keeps kept (way i)))
       (λ k h l. arrives k (omega arith) (omega arith))
 
 -- ---- a row that is swept by gaps
@@ -91,5 +94,6 @@ pub sweep-first :
 unfolding sweep carry
 sweep-first kept arrived zero none = refl
 sweep-first kept arrived (suc j) none =
-    ap (λ (c : Cell Marked). keep (kept .less) (arrived (suc j)) (carry (kept .overGap j) c)) (sweep-none kept arrived j (λ i h. none i (omega arith)))
+    ap (λ (c : Cell Marked). keep (kept .less) (arrived (suc j)) (carry (kept .overGap j) c))
+    (sweep-none kept arrived j (λ i h. none i (omega arith)))
     ∙ keep-empty (kept .less) (arrived (suc j))

@@ -9,7 +9,8 @@ use lib.Ieee.{Float, lt, nan}
 use lib.ListN.{length, getD, set}
 use lib.Seq.{getD-set-same, getD-set-other}
 use borrow.Author.Tests.{le-leb, lt-leb}
-use Rattle.paths.specs.Cell.{Cell, empty, held, isHeld, keep}
+use Rattle.paths.specs.Cell.{Cell, empty, held, keep}
+use Rattle.paths.specs.inner.Held.{isHeld}
 use Rattle.paths.specs.inner.Marks.{Marked}
 use Rattle.rows.specs.declared.way.Way.{Way}
 use Rattle.rows.specs.declared.way.Way.the-variants.{Start, Gap, Unit}
@@ -34,11 +35,13 @@ holds-held unreached e = absurd (e refl)
 holds-held (reached h) e = refl
 
 pub holds-reached :
-    {value : Float} {mark : ℕ} {cell : Cell Marked} → Holds value mark cell → isHeld cell ≡ true → cell ≡ held (record { value = value; mark = mark })
+    {value : Float} {mark : ℕ} {cell : Cell Marked} → Holds value mark cell → isHeld cell ≡ true
+    → cell ≡ held (record { value = value; mark = mark })
 holds-reached unreached e = absurd (let z : _≡_ {A = ℕ} 0 1 = cc in omega arith)
 holds-reached (reached h) e = refl
 
-module _ (best : List Float) (back : List ℕ) {n since : ℕ} {cells : ℕ → Cell Marked} (row : Row best back first n cells) (reach : ReachedFrom cells n since) where
+module _ (best : List Float) (back : List ℕ) {n since : ℕ} {cells : ℕ → Cell Marked} (row : Row best back first n cells)
+    (reach : ReachedFrom cells n since) where
   -- a boundary that a row reaches, and one that it does not
   pub row-held : (j : ℕ) → j < n → since ≤ j → cells j ≡ held (record { value = getD best j nan; mark = getD back j 0 })
   row-held j within h = holds-reached (row j within) (reach j within ∙ le-leb since j h)
@@ -58,7 +61,8 @@ pub same-trans :
     {b₀ b₁ b₂ : List Float} {m₀ m₁ m₂ : List ℕ} {at : ℕ} → Same b₀ m₀ b₁ m₁ at → Same b₁ m₁ b₂ m₂ at → Same b₀ m₀ b₂ m₂ at
 same-trans s t = record { value = t .value ∙ s .value; mark = t .mark ∙ s .mark }
 
-pub same-holds : {b₀ b₁ : List Float} {m₀ m₁ : List ℕ} {at : ℕ} {cell : Cell Marked} → Same b₀ m₀ b₁ m₁ at → HoldsAt b₀ m₀ at cell → HoldsAt b₁ m₁ at cell
+pub same-holds : {b₀ b₁ : List Float} {m₀ m₁ : List ℕ} {at : ℕ} {cell : Cell Marked} → Same b₀ m₀ b₁ m₁ at → HoldsAt b₀ m₀ at cell
+    → HoldsAt b₁ m₁ at cell
 same-holds s h = rw (s .value, s .mark) h
 
 -- ---- a way stored
@@ -103,7 +107,8 @@ pub same-filled :
 same-filled s f = (rw (s .value, s .mark) (f .0), omega (arith, s .mark, f .1))
 
 pub stored-filled :
-    (best : List Float) (back : List ℕ) (at : ℕ) (way : Way) {value : Float} {mark : ℕ} {cell : Cell Marked} → at < length best → at < length back →
+    (best : List Float) (back : List ℕ) (at : ℕ) (way : Way) {value : Float} {mark : ℕ} {cell : Cell Marked} → at < length best →
+    at < length back →
     value ≡ wayValue way → mark ≡ wayMark way → cell ≡ held (markedBy way) → Filled (set best at value) (set back at mark) at cell
 stored-filled best back at way {value} {mark} h k v m e =
     let stored : getD (set best at value) at nan ≡ wayValue way = getD-set-same best at value nan h ∙ v in

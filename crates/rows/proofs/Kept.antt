@@ -1,13 +1,14 @@
--- What the units into one boundary and the gap from the one before leave in its cell: the cell rule over ranges of origins. Assumes nothing.
-use mathlib.Core.Bool.{Bool, true, false, not, cond, _&&_}
+-- What the units into one boundary and the gap from the one before leave in its cell: the cell rule over ranges of origins. Assumes
+-- nothing.
+use mathlib.Core.Bool.{Bool, true, false, cond, _&&_}
 use mathlib.Core.List.{List}
-use mathlib.Core.Logic.{_⊎_, inl, inr}
+use mathlib.Core.Logic.{inl, inr}
 use mathlib.Core.Path.{_≡_, refl, sym, ap, subst, _∙_}
-use Prim.Native.Nat.{ℕ, zero, suc, _+_, _-_, _≤_, _<_, _^_, max}
+use Prim.Native.Nat.{ℕ, zero, suc, _+_, _-_, _≤_, _<_, max}
 use native.Mathlib.Numerals.{add-one}
 use native.Mathlib.Omega.{arith}
 use lib.Dec.{T, leb, ltb, le→leb, lt→ltb}
-use lib.Ieee.{Float, binary64, add, sub, lt, nan}
+use lib.Ieee.{Float, binary64, add, sub, nan}
 use lib.Ieee.Fits.{and-i}
 use lib.ListN.{length, getD}
 use borrow.Author.Tests.{le-leb, lt-leb, lt-ltb, le-ltb}
@@ -20,22 +21,23 @@ use Rattle.paths.specs.Cell.{Cell, empty, held, keep, carry}
 use Rattle.paths.specs.CellRule.{sweep}
 use Rattle.paths.specs.inner.Marks.{Marked, marks}
 use Rattle.paths.specs.inner.Ranges.{inRange, arrivesFrom}
-use Rattle.limits.specs.Common.{shortestUnit, longestUnit}
+use Rattle.limits.specs.Common.{shortestUnit}
 use Rattle.limits.specs.Capacity.{mostBoundaries}
 use Rattle.stages.specs.Lists.{boundsAt, lowsAt, middlesAt, highsAt, gapsAt}
 use Rattle.rows.specs.declared.way.Way.{Way}
 use Rattle.rows.specs.declared.way.Way.the-variants.{Gap, Unit}
 use Rattle.rows.specs.Ways.{Markable, markedBy, orLater, orEach}
-use Rattle.rows.specs.Reads.{Lent, UnitRead, originsTo, unitWay, unitsKept}
+use Rattle.rows.specs.Reads.{WholeLists, UnitRead, originsTo, unitWay, unitsKept}
 use Rattle.rows.specs.Rows.{Row, GapsOf, first}
-use Rattle.rows.specs.Units.{RowTables, rowTables, frameAt, lowAt, middleAt, endAt, gain, scoreAt, UnitsOf, Ordered, ReachedFrom, Begins, arrivals, nextCells, CellOf}
+use Rattle.rows.specs.Units.{RowTables, rowTables, frameAt, lowAt, middleAt, endAt, scoreAt, UnitsOf, Ordered, ReachedFrom, Begins, arrivals, nextCells, CellOf}
 use Rattle.rows.proofs.Lists.{table-at, duration-at}
 use Rattle.rows.proofs.Cells.{higher, or-keeps, or-markable, row-held, row-empty}
 use Rattle.rows.proofs.Arrivals.{brought, Idle, Arrives, brought-none, brought-past, brought-first, brought-each, sweep-first}
 
 -- ---- marks fit
 
-each-markable : (way : ℕ → Way) (n i : ℕ) (kept : Way) → Markable kept → ((k : ℕ) → k < i + n → Markable (way k)) → Markable (orEach way kept i n)
+each-markable : (way : ℕ → Way) (n i : ℕ) (kept : Way) → Markable kept → ((k : ℕ) → k < i + n → Markable (way k))
+    → Markable (orEach way kept i n)
 unfolding orEach
 each-markable way zero i kept h each = h
 each-markable way (suc n) i kept h each =
@@ -44,7 +46,8 @@ each-markable way (suc n) i kept h each =
 -- ---- no unit arrives
 
 -- origins that are below the range or before the first reached one, or past the end, bring nothing
-module _ {q : Problem} {s : ℕ} {t : RowTables} {n : ℕ} (before : ℕ) (of : UnitsOf q s t n) (best : List Float) (back : List ℕ) {cells : ℕ → Cell Marked}
+module _ {q : Problem} {s : ℕ} {t : RowTables} {n : ℕ} (before : ℕ) (of : UnitsOf q s t n) (best : List Float)
+    (back : List ℕ) {cells : ℕ → Cell Marked}
     (row : Row best back first n cells) (reach : ReachedFrom cells n before) (j : ℕ) (within : j < n) where
   barred : (i : ℕ) → i < j → inRange (lowAt t j) (endAt t j) i ≡ false → q .unitOk i j ≡ false
   barred i h e = of .origins .ranged i j h within ∙ e
@@ -73,7 +76,9 @@ module _ {q : Problem} {s : ℕ} {t : RowTables} {n : ℕ} (before : ℕ) (of : 
       idle i h =
           by-order i (max (lowAt t j) before) (below-idle i h)
           (λ above. by-order i (endAt t j)
-          (λ inside. absurd (let z : _≡_ {A = Bool} true false = sym (rw (lt-ltb before (endAt t j) (omega arith), lt-ltb (lowAt t j) (endAt t j) (omega arith))) ∙ e in no z))
+          (λ inside. absurd
+          (let z : _≡_ {A = Bool} true false =
+          sym (rw (lt-ltb before (endAt t j) (omega arith), lt-ltb (lowAt t j) (endAt t j) (omega arith))) ∙ e in no z))
           (past-idle i h))
         where
           no : true ≡ false → ⊥
@@ -81,7 +86,8 @@ module _ {q : Problem} {s : ℕ} {t : RowTables} {n : ℕ} (before : ℕ) (of : 
 
 -- ---- the units of a range
 
-module _ (n : ℕ) (words : List ℕ) (figures : List Float) (score : ℕ → Float) (costs : Costs) (strictness : Strictness) (lent : Lent words figures) (few : n ≤ mostBoundaries)
+module _ (n : ℕ) (words : List ℕ) (figures : List Float) (score : ℕ → Float) (costs : Costs) (strictness : Strictness)
+    (lent : WholeLists words figures) (few : n ≤ mostBoundaries)
     (ordered : Ordered (rowTables n words figures score costs strictness) n) (j : ℕ) (within : j < n) where
   abbrev t : RowTables
   t = rowTables n words figures score costs strictness
@@ -143,10 +149,12 @@ module _ (n : ℕ) (words : List ℕ) (figures : List Float) (score : ℕ → Fl
         let inside = middle-inside in
         let is = end-is in
         each-markable (unitWay best words figures (getD words j 0) bare) (end - rest) rest _
-        (each-markable (unitWay best words figures (getD words j 0) (cond (ltb low middle) voice bare)) (middle - (low + 1)) (low + 1) _ (way-markable (cond (ltb low middle) voice bare) low some) (λ k h. way-markable (cond (ltb low middle) voice bare) k (omega arith)))
+        (each-markable (unitWay best words figures (getD words j 0) (cond (ltb low middle) voice bare)) (middle - (low + 1)) (low + 1) _
+        (way-markable (cond (ltb low middle) voice bare) low some) (λ k h. way-markable (cond (ltb low middle) voice bare) k (omega arith)))
         (λ k h. way-markable bare k (omega arith))
 
-    module _ {q : Problem} {s : ℕ} (before : ℕ) (of : UnitsOf q s t n) (back : List ℕ) {cells : ℕ → Cell Marked} (row : Row best back first n cells)
+    module _ {q : Problem} {s : ℕ} (before : ℕ) (of : UnitsOf q s t n) (back : List ℕ) {cells : ℕ → Cell Marked}
+        (row : Row best back first n cells)
         (reach : ReachedFrom cells n before) (lowest : low ≡ max (lowAt t j) before) where
       -- each unit of the range, with the score that its place in the range says, arrives
       arrives :
@@ -158,7 +166,8 @@ module _ (n : ℕ) (words : List ℕ) (figures : List Float) (score : ℕ → Fl
           let fits = ordered .fits i j within in-range in
           let here = frame-is j within in
           let there = frame-is i (omega arith) in
-          let ok : q .unitOk i j ≡ true = of .origins .ranged i j sooner within ∙ rw (le-leb (lowAt t j) i (omega arith), lt-ltb i (endAt t j) (omega arith)) in
+          let ok : q .unitOk i j ≡ true =
+          of .origins .ranged i j sooner within ∙ rw (le-leb (lowAt t j) i (omega arith), lt-ltb i (endAt t j) (omega arith)) in
           record {
             from = record { value = getD best i nan; mark = getD back i 0 };
             there = row-held best back row reach i (omega arith) (omega arith);
@@ -194,10 +203,12 @@ module _ (n : ℕ) (words : List ℕ) (figures : List Float) (score : ℕ → Fl
           anchored : (i : ℕ) → low < i → i < middle → voiced ≡ scoreAt t i j
           anchored i h k =
               let is = middle-is in
-              ap (λ (b : Bool). cond b (score j) (costs .«unvoiced»)) (lt-ltb low middle (omega arith) ∙ sym (lt-ltb i (middleAt t j) (omega arith)))
+              ap (λ (b : Bool). cond b (score j) (costs .«unvoiced»))
+              (lt-ltb low middle (omega arith) ∙ sym (lt-ltb i (middleAt t j) (omega arith)))
 
           bare : (i : ℕ) → middle ≤ i → costs .«unvoiced» ≡ scoreAt t i j
-          bare i h = let is = middle-is in ap (λ (b : Bool). cond b (score j) (costs .«unvoiced»)) (sym (le-ltb i (middleAt t j) (omega arith)))
+          bare i h =
+              let is = middle-is in ap (λ (b : Bool). cond b (score j) (costs .«unvoiced»)) (sym (le-ltb i (middleAt t j) (omega arith)))
 
           first-one :
               brought q s cells j (low + 1)
@@ -205,7 +216,8 @@ module _ (n : ℕ) (words : List ℕ) (figures : List Float) (score : ℕ → Fl
           first-one =
               ap (brought q s cells j) (add-one low)
               ∙ brought-first q s cells j low
-              (brought-none q s cells j low (λ i h. below-idle before of best back row reach j within i (omega (arith, earlier low some)) (omega arith)))
+              (brought-none q s cells j low
+              (λ i h. below-idle before of best back row reach j within i (omega (arith, earlier low some)) (omega arith)))
               (arrives low (omega arith) some _ (ap (λ (m : ℕ). cond (ltb low m) (score j) (costs .«unvoiced»)) (sym middle-is)))
 
 -- ---- the cell
@@ -220,9 +232,12 @@ next-step q s cells (suc j) h =
     let is : suc j - 1 ≡ j = omega arith in
     rw is
 
-module _ (n : ℕ) (words : List ℕ) (figures : List Float) (score : ℕ → Float) (costs : Costs) (strictness : Strictness) (lent : Lent words figures) (few : n ≤ mostBoundaries)
-    (ordered : Ordered (rowTables n words figures score costs strictness) n) (j : ℕ) (within : j < n) (best : List Float) (long : n + n ≤ length best)
-    (before since : ℕ) (last : Float) (begun : since ≤ j) (begins : Begins (rowTables n words figures score costs strictness) n before since) where
+module _ (n : ℕ) (words : List ℕ) (figures : List Float) (score : ℕ → Float) (costs : Costs) (strictness : Strictness)
+    (lent : WholeLists words figures) (few : n ≤ mostBoundaries)
+    (ordered : Ordered (rowTables n words figures score costs strictness) n) (j : ℕ) (within : j < n) (best : List Float)
+    (long : n + n ≤ length best)
+    (before since : ℕ) (last : Float) (begun : since ≤ j)
+    (begins : Begins (rowTables n words figures score costs strictness) n before since) where
   abbrev tables : RowTables
   tables = rowTables n words figures score costs strictness
 
@@ -242,7 +257,9 @@ module _ (n : ℕ) (words : List ℕ) (figures : List Float) (score : ℕ → Fl
 
   -- a row's first boundary is reached by a unit, so a boundary that none reaches is a later one
   pub later-than : arrivesFrom (lowAt tables) (endAt tables) before j ≡ false → since < j
-  later-than e = by-order since j (λ l. l) (λ l. absurd (no (sym (begins .some (omega arith)) ∙ ap (arrivesFrom (lowAt tables) (endAt tables) before) (omega arith) ∙ e)))
+  later-than e =
+      by-order since j (λ l. l)
+      (λ l. absurd (no (sym (begins .some (omega arith)) ∙ ap (arrivesFrom (lowAt tables) (endAt tables) before) (omega arith) ∙ e)))
     where
       no : true ≡ false → ⊥
       no z = let y : _≡_ {A = ℕ} 0 1 = cc in omega arith
@@ -267,14 +284,16 @@ module _ (n : ℕ) (words : List ℕ) (figures : List Float) (score : ℕ → Fl
       kept = λ q s gaps of back cells row reach mark filled.
           let after = alone-later h in
           next-step q s cells j (omega arith)
-          ∙ rw (arrivals-none before of best back row reach j within (nothing-arrives h)) (carried q s cells gaps (omega arith) mark (filled after));
+          ∙ rw (arrivals-none before of best back row reach j within (nothing-arrives h))
+          (carried q s cells gaps (omega arith) mark (filled after));
     }
 
     units-are :
         low < end → {q : Problem} {s : ℕ} → UnitsOf q s tables n → (back : List ℕ) (cells : ℕ → Cell Marked) → Row best back first n cells →
         ReachedFrom cells n before → arrivals q s cells j ≡ held (markedBy unitWays)
     units-are some of back cells row reach =
-        arrivals-kept n words figures score costs strictness lent few ordered j within best long low end (omega arith) to before of back row reach lowest some
+        arrivals-kept n words figures score costs strictness lent few ordered j within best long low end
+        (omega arith) to before of back row reach lowest some
 
     kept-markable : low < end → Markable unitWays
     kept-markable some =
@@ -285,7 +304,8 @@ module _ (n : ℕ) (words : List ℕ) (figures : List Float) (score : ℕ → Fl
     cell-units some h = record {
       markable = kept-markable some;
       kept = λ q s gaps of back cells row reach mark filled.
-          sweep-first (marks q) (arrivals q s cells) j (λ i l. arrivals-none before of best back row reach i (omega arith) (begins .none i (omega arith) (omega arith)))
+          sweep-first (marks q) (arrivals q s cells) j
+          (λ i l. arrivals-none before of best back row reach i (omega arith) (begins .none i (omega arith) (omega arith)))
           ∙ units-are some of back cells row reach;
     }
 
@@ -295,5 +315,6 @@ module _ (n : ℕ) (words : List ℕ) (figures : List Float) (score : ℕ → Fl
       markable = or-markable unitWays gapWay (kept-markable some) (omega arith);
       kept = λ q s gaps of back cells row reach mark filled.
           next-step q s cells j (omega arith)
-          ∙ rw (units-are some of back cells row reach, carried q s cells gaps (omega arith) mark (filled after)) (sym (or-keeps unitWays gapWay));
+          ∙ rw (units-are some of back cells row reach, carried q s cells gaps (omega arith) mark (filled after))
+          (sym (or-keeps unitWays gapWay));
     }

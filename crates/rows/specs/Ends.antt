@@ -32,4 +32,5 @@ pub record StopsOf (q : Problem) (stop : List Float) (n : ℕ) : Type 0 where
 -- The end is the one chosen over the row that the cells hold, which reaches its boundaries from `since` on.
 abbrev pub EndOf : Problem → List Float → ℕ → ℕ → End → Type 0
 EndOf q best n since end =
-    (back : List ℕ) (cells : ℕ → Cell Marked) → Row best back first n cells → ReachedFrom cells n since → held (endedBy end) ≡ chosenEnd q cells
+    (back : List ℕ) (cells : ℕ → Cell Marked) → Row best back first n cells → ReachedFrom cells n since →
+    held (endedBy end) ≡ chosenEnd q cells

@@ -19,8 +19,8 @@ use Rattle.rows.specs.declared.way.Way.{Way}
 use Rattle.rows.specs.declared.way.Way.the-variants.{Unit}
 use Rattle.rows.specs.Ways.{orEach}
 
--- the lists of a stage's tables are whole
-pub record Lent (words : List ℕ) (figures : List Float) : Type 0 where
+-- Lent lists with room for all tables of a stage, whatever they hold.
+pub record WholeLists (words : List ℕ) (figures : List Float) : Type 0 where
   pub worded : length words ≡ wordsLong
   pub figured : length figures ≡ figuresLong
 
@@ -51,7 +51,9 @@ reachedBy words Relaxed units = getD words (sinceRelaxedAt + units) 0
 -- the way by the unit with this score from a boundary to frame `to`
 abbrev pub unitWay : List Float → List ℕ → List Float → ℕ → Float → ℕ → Way
 unitWay best words figures to score origin =
-    Unit (add binary64 (getD best origin nan) (add binary64 score (getD figures (durationsAt + (to - getD words origin 0 - shortestUnit)) nan))) origin
+    Unit
+    (add binary64 (getD best origin nan) (add binary64 score (getD figures (durationsAt + (to - getD words origin 0 - shortestUnit)) nan)))
+    origin
 
 -- the boundary is one of the stage, reached in the row before, and the unit's length has a duration
 pub record UnitRead (best : List Float) (words : List ℕ) (figures : List Float) (to origin : ℕ) : Type 0 where

@@ -38,7 +38,8 @@ pub record Same (best : List Float) (back : List ℕ) (best′ : List Float) (ba
   pub mark : getD back′ at 0 ≡ getD back at 0
 
 -- The first n cells are those of a row, and all others as they were.
-pub record FirstFilled (best : List Float) (back : List ℕ) (best′ : List Float) (back′ : List ℕ) (n : ℕ) (cells : ℕ → Cell Marked) : Type 0 where
+pub record FirstFilled (best : List Float) (back : List ℕ) (best′ : List Float) (back′ : List ℕ) (n : ℕ) (cells : ℕ → Cell Marked) :
+    Type 0 where
   pub row : Row best′ back′ first n cells
   pub rest : (at : ℕ) → n ≤ at → Same best back best′ back′ at
 

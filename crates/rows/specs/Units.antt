@@ -9,7 +9,8 @@ use lib.ListN.{getD}
 use Rattle.phrase.specs.declared.costs.Costs.{Costs}
 use Rattle.paths.specs.declared.passes.Strictness.{Strictness}
 use Rattle.paths.specs.Problem.{Problem}
-use Rattle.paths.specs.Cell.{Cell, held, best as bestOf, isHeld}
+use Rattle.paths.specs.Cell.{Cell, held, best as bestOf}
+use Rattle.paths.specs.inner.Held.{isHeld}
 use Rattle.paths.specs.CellRule.{arrival, sweep}
 use Rattle.paths.specs.inner.Marks.{Marked, marks}
 use Rattle.paths.specs.inner.Ranges.{inRange, Origins, arrivesFrom}
@@ -88,12 +89,14 @@ nextCells q s cells = sweep (marks q) (arrivals q s cells)
 pub record CellOf (t : RowTables) (best : List Float) (n before since j : ℕ) (last : Float) (way : Way) : Type 0 where
   pub markable : Markable way
   pub kept :
-      (q : Problem) (s : ℕ) → GapsOf q (t .tables .gap) n → UnitsOf q s t n → (back : List ℕ) (cells : ℕ → Cell Marked) → Row best back first n cells →
+      (q : Problem) (s : ℕ) → GapsOf q (t .tables .gap) n → UnitsOf q s t n →
+      (back : List ℕ) (cells : ℕ → Cell Marked) → Row best back first n cells →
       ReachedFrom cells n before → (mark : ℕ) →
       (since < j → nextCells q s cells (j - 1) ≡ held (record { value = last; mark = mark })) → nextCells q s cells j ≡ held (markedBy way)
 
 -- The next n cells are those of the row after the first n, and all others are as they were.
-pub record NextFilled (best : List Float) (back : List ℕ) (best′ : List Float) (back′ : List ℕ) (n : ℕ) (cells : ℕ → Cell Marked) : Type 0 where
+pub record NextFilled (best : List Float) (back : List ℕ) (best′ : List Float) (back′ : List ℕ) (n : ℕ) (cells : ℕ → Cell Marked) :
+    Type 0 where
   pub row : Row best′ back′ (next n) n cells
   pub before : (at : ℕ) → at < n → Same best back best′ back′ at
   pub after : (at : ℕ) → n + n ≤ at → Same best back best′ back′ at

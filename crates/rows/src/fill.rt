@@ -10,7 +10,7 @@ ghost use Rattle.limits.specs.Capacity.{mostBoundaries};
 ghost use Rattle.stages.specs.Lists.{middlesAt, wordsLong};
 ghost use Rattle.rows.specs.Rows.{Row, next, unfilled};
 ghost use Rattle.rows.specs.Units.{Begins, CellOf, Ordered, RowFilled, rowTables};
-ghost use Rattle.rows.specs.Reads.{Lent, Scorable, UnitRead, originsTo, scoreRead, unitsKept};
+ghost use Rattle.rows.specs.Reads.{WholeLists, Scorable, UnitRead, originsTo, scoreRead, unitsKept};
 use crate::score::score_at;
 use crate::units::unit_from;
 use crate::units::units_from;
@@ -54,10 +54,13 @@ fn arrived<'a>(
     low: usize,
     end: usize,
 ) -> Way
-    requires { ⌜ Lent (now words) (now figures) × (n ≤ mostBoundaries) × (j < n) × (low < end) × T (not (isNan (costs .«unvoiced»))) ⌝ }
+    requires { ⌜ WholeLists (now words) (now figures) × (n ≤ mostBoundaries) × (j < n) × (low < end)
+        × T (not (isNan (costs .«unvoiced»))) ⌝ }
     requires { ⌜ Scorable (now bytes) at (now words) column n × (getD (now words) (middlesAt + j) 0 ≤ end) ⌝ }
     requires { ⌜ ((i : ℕ) → low ≤ i → i < end → UnitRead (now best) (now words) (now figures) (getD (now words) j 0) i) ⌝ }
-    ensures { λ r. ⌜ r ≡ unitsKept (now (best .entry)) (now (words .entry)) (now (figures .entry)) (scoreRead (now (bytes .entry)) (now (words .entry)) column j) costs j low end ⌝ }
+    ensures { λ r. ⌜ r
+        ≡ unitsKept (now (best .entry)) (now (words .entry)) (now (figures .entry))
+        (scoreRead (now (bytes .entry)) (now (words .entry)) column j) costs j low end ⌝ }
 {
     let to = words[j];
     let middle = words[MIDDLE + j] as usize;
@@ -99,9 +102,13 @@ fn cell<'a>(
     j: usize,
     last: f64,
 ) -> Way
-    requires { ⌜ Lent (now words) (now figures) × (n ≤ mostBoundaries) × Scorable (now bytes) at (now words) column n × Ordered (rowTables n (now words) (now figures) (scoreRead (now bytes) (now words) column) costs strictness) n ⌝ }
-    requires { ⌜ (n + n ≤ length (now best)) × (since ≤ j) × (j < n) × Begins (rowTables n (now words) (now figures) (scoreRead (now bytes) (now words) column) costs strictness) n before since ⌝ }
-    ensures { λ r. ⌜ CellOf (rowTables n (now (words .entry)) (now (figures .entry)) (scoreRead (now (bytes .entry)) (now (words .entry)) column) costs strictness) (now (best .entry)) n before since j last r ⌝ }
+    requires { ⌜ WholeLists (now words) (now figures) × (n ≤ mostBoundaries) × Scorable (now bytes) at (now words) column n
+        × Ordered (rowTables n (now words) (now figures) (scoreRead (now bytes) (now words) column) costs strictness) n ⌝ }
+    requires { ⌜ (n + n ≤ length (now best)) × (since ≤ j) × (j < n)
+        × Begins (rowTables n (now words) (now figures) (scoreRead (now bytes) (now words) column) costs strictness) n before since ⌝ }
+    ensures { λ r. ⌜ CellOf
+        (rowTables n (now (words .entry)) (now (figures .entry))
+        (scoreRead (now (bytes .entry)) (now (words .entry)) column) costs strictness) (now (best .entry)) n before since j last r ⌝ }
 {
     let low = larger(words[LOW + j] as usize, before);
     let end = origins_end(words, strictness, j);
@@ -143,10 +150,15 @@ pub fn fill_row<'a>(
     before: usize,
     since: usize,
 )
-    requires { ⌜ Lent (now words) (now figures) × (n ≤ mostBoundaries) × Scorable (now bytes) at (now words) column n × Ordered (rowTables n (now words) (now figures) (scoreRead (now bytes) (now words) column) costs strictness) n ⌝ }
+    requires { ⌜ WholeLists (now words) (now figures) × (n ≤ mostBoundaries) × Scorable (now bytes) at (now words) column n
+        × Ordered (rowTables n (now words) (now figures) (scoreRead (now bytes) (now words) column) costs strictness) n ⌝ }
     requires { ⌜ (n + n ≤ length (now best)) × (n + n ≤ length (now back)) × Row (now best) (now back) (next n) n unfilled ⌝ }
-    requires { ⌜ Begins (rowTables n (now words) (now figures) (scoreRead (now bytes) (now words) column) costs strictness) n before since ⌝ }
-    ensures { λ _. ⌜ RowFilled (rowTables n (now (words .entry)) (now (figures .entry)) (scoreRead (now (bytes .entry)) (now (words .entry)) column) costs strictness) (now (best .entry)) (now (back .entry)) (now (best .exit)) (now (back .exit)) n before ⌝ }
+    requires { ⌜ Begins
+        (rowTables n (now words) (now figures) (scoreRead (now bytes) (now words) column) costs strictness) n before since ⌝ }
+    ensures { λ _. ⌜ RowFilled
+        (rowTables n (now (words .entry)) (now (figures .entry))
+        (scoreRead (now (bytes .entry)) (now (words .entry)) column) costs strictness) (now (best .entry)) (now (back .entry))
+        (now (best .exit)) (now (back .exit)) n before ⌝ }
 {
     let mut last = 0.0;
     for j in since..n {

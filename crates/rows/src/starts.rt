@@ -12,7 +12,8 @@ use stages::lists::GAP;
 // "A path starts at any boundary b"; "start comes first, [..] then the gap".
 pub fn fill_starts(best: &mut [f64], back: &mut [u32], figures: &[f64], n: usize)
     requires { ⌜ (n ≤ length (now best)) × (n ≤ length (now back)) × (n ≤ mostBoundaries) × (length (now figures) ≡ figuresLong) ⌝ }
-    ensures { λ _. ⌜ FirstRow (tableAt startsAt (now (figures .entry))) (tableAt gapsAt (now (figures .entry))) (now (best .entry)) (now (back .entry)) (now (best .exit)) (now (back .exit)) n ⌝ }
+    ensures { λ _. ⌜ FirstRow (tableAt startsAt (now (figures .entry))) (tableAt gapsAt (now (figures .entry))) (now (best .entry))
+        (now (back .entry)) (now (best .exit)) (now (back .exit)) n ⌝ }
 {
     for j in 0..n {
         let mut kept = Way::Start(figures[j]);

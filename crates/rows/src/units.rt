@@ -39,7 +39,8 @@ pub(crate) fn units_from(
     so_far: Way,
 ) -> Way
     requires { ⌜ ((i : ℕ) → low ≤ i → i < end → UnitRead (now best) (now words) (now figures) to i) ⌝ }
-    ensures { λ r. ⌜ r ≡ orEach (unitWay (now (best .entry)) (now (words .entry)) (now (figures .entry)) to score) «so_far» low (end - low) ⌝ }
+    ensures { λ r. ⌜ r
+        ≡ orEach (unitWay (now (best .entry)) (now (words .entry)) (now (figures .entry)) to score) «so_far» low (end - low) ⌝ }
 {
     let mut kept = so_far;
     for origin in low..end {

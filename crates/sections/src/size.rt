@@ -28,12 +28,12 @@ pub fn oversized(limits: Limits, t: Trailer) -> bool
     (t.mask.count > limits.frames)
         | (t.nuclei.count > limits.nuclei)
         | (t.boundaries.count > limits.boundaries)
-        | (t.anchors.count > limits.anchors)
-        | (t.added.count > limits.boundaries)
+        | (t.added_anchors.count > limits.anchors)
+        | (t.added_boundaries.count > limits.boundaries)
         | (t.scores.count > limits.columns)
         | (t.candidates.count > limits.candidates)
         | (t.scores.count == 0)
-        | ((t.anchors.count == 0) & (t.added.count > 0))
+        | ((t.added_anchors.count == 0) & (t.added_boundaries.count > 0))
 }
 
 // A section of `long` bytes that `back` bytes before `end` does not hold, or that starts before the record.
@@ -49,12 +49,12 @@ pub fn overreaching(limits: Limits, end: usize, t: Trailer) -> bool
     ensures { λ r. ⌜ r ≡ overreaching limits end t ⌝ }
 {
     let candidate_bytes = limits.candidate_bytes() * t.candidates.count;
-    let score_bytes = 4 * ((t.nuclei.count + t.anchors.count) * t.scores.count);
+    let score_bytes = 4 * ((t.nuclei.count + t.added_anchors.count) * t.scores.count);
     outside(end, t.mask.count, t.mask.back)
         | outside(end, 4 * t.nuclei.count, t.nuclei.back)
         | outside(end, 4 * t.boundaries.count, t.boundaries.back)
-        | outside(end, 4 * t.anchors.count, t.anchors.back)
-        | outside(end, 4 * t.added.count, t.added.back)
+        | outside(end, 4 * t.added_anchors.count, t.added_anchors.back)
+        | outside(end, 4 * t.added_boundaries.count, t.added_boundaries.back)
         | outside(end, score_bytes, t.scores.back)
         | outside(end, candidate_bytes, t.candidates.back)
         | outside(end, COSTS_BYTES, t.costs)

@@ -8,7 +8,7 @@ use native.Mathlib.Omega.{arith}
 use borrow.Author.Tests.{lt-ltb, le-ltb}
 use lib.Dec.{ltb}
 use lib.ListN.{length, getD}
-use Rattle.laws.specs.Listed.{written}
+use Rattle.laws.specs.inner.Tables.{written}
 use Rattle.laws.proofs.Listed.{written-at}
 use Rattle.laws.proofs.Numbers.{by-order}
 use Rattle.laws.proofs.Rewriting.{written-alike, written-over}

@@ -1,6 +1,6 @@
 -- Unit spans, `tbu_spans` (document 01, "Spans, marks and order"). The two lists may stand in any order.
-use Prim.Native.Nat.{ℕ, _+_, _-_, _*_, _/_, _≤_, min, max}
-use mathlib.Core.Bool.{false, _||_, cond}
+use Prim.Native.Nat.{ℕ, _+_, _-_, _*_, _/_, min, max}
+use mathlib.Core.Bool.{_||_, cond}
 use mathlib.Core.List.{List, [], _∷_, _++_, map}
 use mathlib.Core.Path.{_≡_}
 use lib.Dec.{ltb}
@@ -87,8 +87,3 @@ written (refused n) words out = out
 pub record Answers (nuclei bounds : List ℕ) (lo hi : ℕ) (before : List ℕ) (answer : SpansAnswer) (after : List ℕ) : Type 0 where
   pub answered : outcome answer ≡ tbuSpansOf nuclei bounds lo hi (length before)
   pub output : after ≡ written (outcome answer) (wordsOf (spansOf nuclei bounds lo hi)) before
-
--- What the checks leave for the writing of spans: frames within their limit, and room for a span of each.
-pub record Writable (nuclei out : List ℕ) : Type 0 where
-  pub within : anyAbove lastFrame nuclei ≡ false
-  pub room : 2 * length (ascending nuclei) ≤ length out

@@ -6,7 +6,8 @@ use frames::list::Nearest;
 use frames::sizes::MOST_FRAMES;
 use limits::common::LAST_FRAME;
 ghost use mathlib.Core.Path.{_≡_};
-ghost use Rattle.spans.specs.Spans.{spansOf, wordsOf, overwritten, Writable, Answers};
+ghost use Rattle.spans.specs.Spans.{spansOf, wordsOf, overwritten, Answers};
+ghost use Rattle.spans.specs.inner.Room.{Writable};
 
 pub enum SpansAnswer {
     Spans(usize),

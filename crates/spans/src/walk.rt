@@ -6,7 +6,7 @@ ghost use mathlib.Core.Path.{_≡_};
 ghost use mathlib.Core.Bool.{cond};
 ghost use Prim.Native.Nat.{_+_, _<_, _≤_, _^_};
 ghost use lib.ListN.{length, getD};
-ghost use Rattle.laws.specs.Listed.{written};
+ghost use Rattle.laws.specs.inner.Tables.{written};
 ghost use Rattle.spans.specs.Spans.{uncutStart, uncutEnd, spanOf};
 ghost use Rattle.spans.specs.inner.Walk.{Increasing, Walkable, Below, Splits, cutStart, cutEnd};
 

@@ -22,9 +22,12 @@ pub counts-same : (words words′ : List ℕ) (ends n : ℕ) → tableAt lowsAt 
     → tableAt ends words ≡ tableAt ends words′ → reachedBy words ends n ≡ reachedBy words′ ends n
 counts-same words words′ ends n = ap₂ (λ (low ends : List ℕ). listed (firstReached (entryOf low) (entryOf ends) n) unitCounts)
 
-module _ (w : List ℕ) (n : ℕ) {w′ : List ℕ} (long : length w ≡ wordsLong) (is : w′ ≡ take sinceStrictAt w ++ reachedBy w middlesAt n ++ reachedBy w highsAt n) where
+module _ (w : List ℕ) (n : ℕ) {w′ : List ℕ} (long : length w ≡ wordsLong)
+    (is : w′ ≡ take sinceStrictAt w ++ reachedBy w middlesAt n ++ reachedBy w highsAt n) where
   front-long : length (take sinceStrictAt w ++ reachedBy w middlesAt n) ≡ sinceRelaxedAt
-  front-long = length-append (take sinceStrictAt w) (reachedBy w middlesAt n) ∙ ap₂ _+_ (length-take-le sinceStrictAt w (omega arith)) (counts-long w middlesAt n)
+  front-long =
+      length-append (take sinceStrictAt w) (reachedBy w middlesAt n)
+      ∙ ap₂ _+_ (length-take-le sinceStrictAt w (omega arith)) (counts-long w middlesAt n)
 
   pub counted-before : (c m : ℕ) → c + m ≤ sinceStrictAt → take m (drop c w′) ≡ take m (drop c w)
   counted-before c m h =
@@ -40,14 +43,19 @@ module _ (w : List ℕ) (n : ℕ) {w′ : List ℕ} (long : length w ≡ wordsLo
   pub counted-strict : countsAt sinceStrictAt w′ ≡ reachedBy w′ middlesAt n
   counted-strict =
       ap (countsAt sinceStrictAt) is
-      ∙ part-front sinceStrictAt unitCounts (take sinceStrictAt w ++ reachedBy w middlesAt n) (reachedBy w highsAt n) (omega (arith, front-long))
-      ∙ ap (take unitCounts) (drop-at (take sinceStrictAt w) (reachedBy w middlesAt n) sinceStrictAt (length-take-le sinceStrictAt w (omega arith)))
+      ∙ part-front sinceStrictAt unitCounts (take sinceStrictAt w ++ reachedBy w middlesAt n) (reachedBy w highsAt n)
+      (omega (arith, front-long))
+      ∙ ap (take unitCounts)
+      (drop-at (take sinceStrictAt w) (reachedBy w middlesAt n) sinceStrictAt (length-take-le sinceStrictAt w (omega arith)))
       ∙ take-all unitCounts (reachedBy w middlesAt n) (omega (arith, counts-long w middlesAt n)) ∙ still middlesAt (omega arith)
 
   pub counted-relaxed : countsAt sinceRelaxedAt w′ ≡ reachedBy w′ highsAt n
   counted-relaxed =
-      ap (countsAt sinceRelaxedAt) is ∙ ap (take unitCounts) (drop-at (take sinceStrictAt w ++ reachedBy w middlesAt n) (reachedBy w highsAt n) sinceRelaxedAt front-long)
+      ap (countsAt sinceRelaxedAt) is
+      ∙ ap (take unitCounts) (drop-at (take sinceStrictAt w ++ reachedBy w middlesAt n) (reachedBy w highsAt n) sinceRelaxedAt front-long)
       ∙ take-all unitCounts (reachedBy w highsAt n) (omega (arith, counts-long w highsAt n)) ∙ still highsAt (omega arith)
 
   pub counted-whole : length w′ ≡ wordsLong
-  counted-whole = ap length is ∙ length-append (take sinceStrictAt w ++ reachedBy w middlesAt n) (reachedBy w highsAt n) ∙ ap₂ _+_ front-long (counts-long w highsAt n)
+  counted-whole =
+      ap length is ∙ length-append (take sinceStrictAt w ++ reachedBy w middlesAt n) (reachedBy w highsAt n)
+      ∙ ap₂ _+_ front-long (counts-long w highsAt n)

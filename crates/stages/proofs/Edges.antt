@@ -6,7 +6,7 @@ use native.Mathlib.Omega.{arith}
 use native.Mathlib.Nat.{le-refl}
 use lib.ListN.{length, getD, List·getD-eq-default}
 use Rattle.laws.proofs.Numbers.{by-order}
-use Rattle.paths.specs.Frames.{Increasing}
+use Rattle.paths.specs.inner.Order.{Increasing}
 use Rattle.paths.proofs.Frames.{increasing-le}
 use Rattle.stages.specs.Edges.{edge}
 

@@ -11,8 +11,9 @@ use borrow.Author.Tests.{lt-ltb, le-ltb, le-leb, lt-leb, ltb-true}
 use Rattle.laws.proofs.Numbers.{by-order}
 use Rattle.laws.proofs.Choices.{and-left}
 use Rattle.laws.proofs.Listed.{padded-in, padded-out}
-use Rattle.laws.specs.Listed.{padded}
-use Rattle.paths.specs.Frames.{Increasing, withinMask}
+use Rattle.laws.specs.inner.Tables.{padded}
+use Rattle.paths.specs.Frames.{withinMask}
+use Rattle.paths.specs.inner.Order.{Increasing}
 use Rattle.paths.specs.Anchors.{Anchor, select, numbered, keptIn, heldIn}
 use Rattle.paths.specs.theory.LookAhead.{ahead}
 use Rattle.stages.specs.Kept.{framesOf}
@@ -60,11 +61,13 @@ listed-further row frame frames (anchor ∷ anchors) listed = (one (listed .0), 
         }
 
 -- how many of a list pass a test, one at a time
-taken-in : (test : Anchor → Bool) (anchor : Anchor) (anchors : List Anchor) → test anchor ≡ true → length (select test (anchor ∷ anchors)) ≡ suc (length (select test anchors))
+taken-in : (test : Anchor → Bool) (anchor : Anchor) (anchors : List Anchor) → test anchor ≡ true
+    → length (select test (anchor ∷ anchors)) ≡ suc (length (select test anchors))
 unfolding select
 taken-in test anchor anchors e = ap (λ (b : Bool). length (cond b (anchor ∷ select test anchors) (select test anchors))) e
 
-left-out : (test : Anchor → Bool) (anchor : Anchor) (anchors : List Anchor) → test anchor ≡ false → length (select test (anchor ∷ anchors)) ≡ length (select test anchors)
+left-out : (test : Anchor → Bool) (anchor : Anchor) (anchors : List Anchor) → test anchor ≡ false
+    → length (select test (anchor ∷ anchors)) ≡ length (select test anchors)
 unfolding select
 left-out test anchor anchors e = ap (λ (b : Bool). length (cond b (anchor ∷ select test anchors) (select test anchors))) e
 
@@ -116,11 +119,24 @@ held-on (anchor ∷ anchors) end from to below h =
     ))
     (λ more. by-order (anchor .frame) to
     (λ less.
-    omega (arith, known, after-it anchor anchors 0 from (omega arith) more, holds-it anchor anchors from to more less, holds-it anchor anchors 0 to (omega arith) less))
+    omega (
+      arith,
+      known,
+      after-it anchor anchors 0 from (omega arith) more,
+      holds-it anchor anchors from to more less,
+      holds-it anchor anchors 0 to (omega arith) less,
+    ))
     (λ more′.
-    omega (arith, known, after-it anchor anchors 0 from (omega arith) more, after-it anchor anchors from to more more′, after-it anchor anchors 0 to (omega arith) more′)))
+    omega (
+      arith,
+      known,
+      after-it anchor anchors 0 from (omega arith) more,
+      after-it anchor anchors from to more more′,
+      after-it anchor anchors 0 to (omega arith) more′,
+    )))
 
-pub all-below : (anchors : List Anchor) (end bound : ℕ) → Below end anchors → end ≤ bound → countBelow (framesOf anchors) bound ≡ length anchors
+pub all-below : (anchors : List Anchor) (end bound : ℕ) → Below end anchors → end ≤ bound
+    → countBelow (framesOf anchors) bound ≡ length anchors
 unfolding countBelow
 all-below [] end bound below h = refl
 all-below (anchor ∷ anchors) end bound below h =
@@ -139,7 +155,8 @@ module _ (mask : List ℕ) where
   unfolding keptIn select numbered
   kept-either P row frame frames kept dropped = go (withinMask mask frame) (within-below mask frame)
     where
-      go : (b : Bool) → (b ≡ true → frame < length mask) → P (cond b (record { frame = frame; row = row } ∷ keptIn mask (suc row) frames) (keptIn mask (suc row) frames))
+      go : (b : Bool) → (b ≡ true → frame < length mask)
+          → P (cond b (record { frame = frame; row = row } ∷ keptIn mask (suc row) frames) (keptIn mask (suc row) frames))
       go true below = kept (below refl)
       go false below = dropped
 
@@ -158,7 +175,8 @@ module _ (mask : List ℕ) where
       kept-either (λ anchors. length anchors ≤ suc (length frames)) row frame frames (λ below. omega (arith, known)) (omega (arith, known))
 
   -- kept anchors ascend where the listed ones do, up to any frame that the mask does not pass
-  pub kept-climbs : (high low row : ℕ) (frames : List ℕ) → length mask ≤ high → low ≤ high → Increasing frames → (0 < length frames → low ≤ getD frames 0 0)
+  pub kept-climbs : (high low row : ℕ) (frames : List ℕ) → length mask ≤ high → low ≤ high → Increasing frames
+      → (0 < length frames → low ≤ getD frames 0 0)
       → Climbs low high (framesOf (keptIn mask row frames))
   unfolding keptIn select numbered
   kept-climbs high low row [] mask-high low-high increasing first = low-high

@@ -10,7 +10,7 @@ use lib.Dec.{eqb, eqb·suc-zero}
 use lib.ListN.{length, getD, take, set, replicate, length-append, length-map}
 use lib.Seq.{take-suc, length-take-le}
 use Rattle.laws.proofs.Listed.{padded-none, padded-more}
-use Rattle.laws.specs.Listed.{padded}
+use Rattle.laws.specs.inner.Tables.{padded}
 use Rattle.paths.specs.Frames.{withinMask}
 use Rattle.paths.specs.Passes.{nonEmpty}
 use Rattle.paths.specs.Anchors.{Anchor, select, numbered, keptIn}
@@ -23,7 +23,8 @@ unfolding select
 select-append test [] ys = refl
 select-append test (x ∷ xs) ys = go (test x) (select test (xs ++ ys)) (select test xs) (select-append test xs ys)
   where
-    go : (passes : Bool) (all some : List Anchor) → all ≡ some ++ select test ys → cond passes (x ∷ all) all ≡ cond passes (x ∷ some) some ++ select test ys
+    go : (passes : Bool) (all some : List Anchor) → all ≡ some ++ select test ys
+        → cond passes (x ∷ all) all ≡ cond passes (x ∷ some) some ++ select test ys
     go true all some e = ap (λ (anchors : List Anchor). x ∷ anchors) e
     go false all some e = e
 
@@ -34,7 +35,8 @@ numbered-last row [] frame = ap (λ (r : ℕ). record { frame = frame; row = r }
 numbered-last row (first ∷ frames) frame =
     ap (λ (anchors : List Anchor). record { frame = first; row = row } ∷ anchors)
     (numbered-last (suc row) frames frame
-    ∙ ap (λ (r : ℕ). numbered (suc row) frames ++ (record { frame = frame; row = r } ∷ [])) (suc-add row (length frames) ∙ sym (add-suc row (length frames))))
+    ∙ ap (λ (r : ℕ). numbered (suc row) frames ++ (record { frame = frame; row = r } ∷ []))
+    (suc-add row (length frames) ∙ sym (add-suc row (length frames))))
 
 -- the anchors kept of one listed frame more
 kept-last : (mask : List ℕ) (row : ℕ) (frames : List ℕ) (frame : ℕ)
@@ -47,12 +49,14 @@ kept-last mask row frames frame =
 
 module _ (mask : List ℕ) (row : ℕ) (frames : List ℕ) (i : ℕ) (h : i < length frames) where
   one-more : keptIn mask row (take (i + 1) frames)
-      ≡ keptIn mask row (take i frames) ++ cond (withinMask mask (getD frames i 0)) (record { frame = getD frames i 0; row = row + i } ∷ []) []
+      ≡ keptIn mask row (take i frames)
+      ++ cond (withinMask mask (getD frames i 0)) (record { frame = getD frames i 0; row = row + i } ∷ []) []
   one-more =
       ap (λ (n : ℕ). keptIn mask row (take n frames)) (add-one i)
       ∙ ap (keptIn mask row) (take-suc frames i 0 h)
       ∙ kept-last mask row (take i frames) (getD frames i 0)
-      ∙ ap (λ (n : ℕ). keptIn mask row (take i frames) ++ cond (withinMask mask (getD frames i 0)) (record { frame = getD frames i 0; row = row + n } ∷ []) [])
+      ∙ ap (λ (n : ℕ). keptIn mask row (take i frames)
+      ++ cond (withinMask mask (getD frames i 0)) (record { frame = getD frames i 0; row = row + n } ∷ []) [])
       (length-take-le i frames (omega arith))
 
 map-last : (f : Anchor → ℕ) (anchors : List Anchor) (anchor : Anchor) → map f (anchors ++ (anchor ∷ [])) ≡ map f anchors ++ (f anchor ∷ [])
@@ -71,7 +75,8 @@ figure-more f spare anchors anchor count figures counted h e =
     ∙ padded-more (map f anchors) anchorRoom spare (f anchor) (omega (arith, length-map anchors f))
     ∙ ap (λ (l : List ℕ). padded l anchorRoom spare) (sym (map-last f anchors anchor))
 
-pub keeps-more : (anchors : List Anchor) (anchor : Anchor) (count : ℕ) (frames rows : List ℕ) → count < anchorRoom → Keeps anchors count frames rows
+pub keeps-more : (anchors : List Anchor) (anchor : Anchor) (count : ℕ) (frames rows : List ℕ) → count < anchorRoom
+    → Keeps anchors count frames rows
     → Keeps (anchors ++ (anchor ∷ [])) (count + 1) (set frames count (anchor .frame)) (set rows count (anchor .row))
 keeps-more anchors anchor count frames rows h k = record {
   counted = omega (arith, k .counted, length-append anchors (anchor ∷ []));
@@ -85,7 +90,8 @@ module _ (mask : List ℕ) (first : ℕ) (listed : List ℕ) (i : ℕ) (h : i < 
   pub keeps-it : count < anchorRoom → withinMask mask (getD listed i 0) ≡ true
       → Keeps (keptIn mask first (take (i + 1) listed)) (count + 1) (set frames count (getD listed i 0)) (set rows count (first + i))
   keeps-it small e =
-      rw (one-more mask first listed i h, e) (keeps-more (keptIn mask first (take i listed)) (record { frame = getD listed i 0; row = first + i }) count frames rows small before)
+      rw (one-more mask first listed i h, e)
+      (keeps-more (keptIn mask first (take i listed)) (record { frame = getD listed i 0; row = first + i }) count frames rows small before)
 
   pub drops-it : withinMask mask (getD listed i 0) ≡ false → Keeps (keptIn mask first (take (i + 1) listed)) count frames rows
   drops-it e = rw (one-more mask first listed i h, e, append-nil) before

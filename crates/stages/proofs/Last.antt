@@ -7,7 +7,7 @@ use borrow.Author.Tests.{lt-ltb, le-ltb}
 use lib.ListN.{length, getD, take, drop}
 use lib.Seq.{drop-cons}
 use Rattle.laws.proofs.Numbers.{by-order}
-use Rattle.laws.specs.Listed.{padded}
+use Rattle.laws.specs.inner.Tables.{padded}
 use Rattle.paths.specs.Anchors.{Anchor, select}
 use Rattle.paths.specs.inner.Ranges.{before, lastOf}
 use Rattle.stages.specs.Kept.{framesOf}

@@ -16,9 +16,10 @@ use Rattle.laws.proofs.Numbers.{by-order}
 use Rattle.laws.proofs.Choices.{neither-left, neither-right, one-passes}
 use Rattle.laws.proofs.Range.{none-passes, first-same, past-le, past-same, past-passes, past-fails, first-fails, first-new, first-stays, past-on, first-on}
 use Rattle.laws.proofs.Listed.{length-listed, padded-out, length-table, table-at, table-same}
-use Rattle.laws.specs.Listed.{listed, tableOf}
+use Rattle.laws.specs.Listed.{listed}
+use Rattle.laws.specs.inner.Tables.{tableOf}
 use Rattle.laws.specs.inner.Range.{firstFrom, pastLast}
-use Rattle.paths.specs.Frames.{Increasing}
+use Rattle.paths.specs.inner.Order.{Increasing}
 use Rattle.limits.specs.Common.{shortestUnit, longestUnit}
 use Rattle.paths.specs.Units.{fitsUnit}
 use Rattle.paths.proofs.Frames.{increasing-le}
@@ -261,7 +262,8 @@ module _ {bounds : List ℕ} {first second : ℕ → ℕ} {words : List ℕ} {i 
     bounded = omega arith;
     long = with-long words i j anchored (omega arith) (was .long);
     near = λ target h inside. by-order target j
-        (λ less. holds-beside i j anchored target (suc i) (λ e. omega arith) inside (omega arith) (was .long) (was .near target less inside))
+        (λ less. holds-beside i j anchored target (suc i) (λ e. omega arith) inside (omega arith) (was .long)
+        (was .near target less inside))
         (λ same. subst (λ (t : ℕ). Holds bounds first second (withOrigin words i j anchored) t (suc i)) (here target h same)
         (holds-taken i j one (omega arith) (was .long) (was .far j (omega arith) (omega arith))));
     far = λ target h inside. holds-beside i j anchored target i (λ e. omega arith) inside (omega arith) (was .long)
@@ -287,7 +289,8 @@ table-is f n size list few long inside outside =
 
 -- The table at a place of the words, where the entry of boundary j is what some figure makes of the first n numbers. Neither numbers from j
 -- on change it, nor any of a boundary past the last.
-laid-table : (words : List ℕ) (at n : ℕ) (figure : ℕ → ℕ → ℕ) → n ≤ mostBoundaries → length words ≡ originsLong → at + mostBoundaries ≤ originsLong
+laid-table : (words : List ℕ) (at n : ℕ) (figure : ℕ → ℕ → ℕ) → n ≤ mostBoundaries → length words ≡ originsLong
+    → at + mostBoundaries ≤ originsLong
     → ((j : ℕ) → j < mostBoundaries → getD words (at + j) 0 ≡ figure j n) → ((j : ℕ) → j < n → figure j n ≡ figure j j)
     → ((j : ℕ) → n ≤ j → figure j n ≡ 0) → tableAt at words ≡ tableOf (λ j. figure j j) n mostBoundaries 0
 laid-table words at n figure few long h entries still none =
@@ -324,7 +327,8 @@ origins-end {bounds} {first} {second} {words} {i} increasing few was all = recor
       (first-still (unitTo bounds second) n (none-later bounds second increasing) (none-beyond bounds second))
       (first-none (unitTo bounds second) n (none-later bounds second increasing) (none-beyond bounds second));
   middles =
-      laid-table words middlesIn n (λ j m. pastLast (anchoredTo bounds first second j) m) few (was .long) (omega arith) (λ j h. (done j h) .middle)
+      laid-table words middlesIn n (λ j m. pastLast (anchoredTo bounds first second j) m) few (was .long) (omega arith)
+      (λ j h. (done j h) .middle)
       (past-still (anchoredTo bounds first second) n later beyond) (past-none (anchoredTo bounds first second) n later beyond);
   highs = laid-table words highsIn n (λ j m. pastLast (unitTo bounds second j) m) few (was .long) (omega arith) (λ j h. (done j h) .high)
       (past-still (unitTo bounds second) n (none-later bounds second increasing) (none-beyond bounds second))
@@ -376,13 +380,16 @@ ranged-by {bounds} {first} {second} {first′} {second′} firsts seconds ranged
 
 -- ---- where the origins end
 
-entries-earlier : (tests : ℕ → ℕ → Bool) (n : ℕ) (ends : List ℕ) → ends ≡ tableOf (λ j. pastLast (tests j) j) n mostBoundaries 0 → (j : ℕ) → j < n
+entries-earlier : (tests : ℕ → ℕ → Bool) (n : ℕ) (ends : List ℕ) → ends ≡ tableOf (λ j. pastLast (tests j) j) n mostBoundaries 0 → (j : ℕ)
+    → j < n
     → entryOf ends j ≤ j
 entries-earlier tests n ends e j h =
     omega (arith, ap (λ (l : List ℕ). entryOf l j) e ∙ table-at (λ i. pastLast (tests i) i) n mostBoundaries 0 0 j h, past-le (tests j) j)
 
-pub ranged-ends : {bounds : List ℕ} {first second : ℕ → ℕ} {words : List ℕ} → length bounds ≤ mostBoundaries → Ranged bounds first second words
-    → Ends (tableAt lowsIn words) (tableAt middlesIn words) (length bounds) × Ends (tableAt lowsIn words) (tableAt highsIn words) (length bounds)
+pub ranged-ends : {bounds : List ℕ} {first second : ℕ → ℕ} {words : List ℕ} → length bounds ≤ mostBoundaries
+    → Ranged bounds first second words
+    → Ends (tableAt lowsIn words) (tableAt middlesIn words) (length bounds)
+    × Ends (tableAt lowsIn words) (tableAt highsIn words) (length bounds)
 ranged-ends {bounds} {first} {second} {words} few ranged = (
   record {
     lows = long lowsIn (omega arith);

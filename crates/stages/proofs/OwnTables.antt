@@ -30,7 +30,8 @@ cost-is : (phrase : Phrase) → phrase .nuclei .firstRow ≡ 0 → (from to : �
     → costOf (phrase .costs) (phrase .mask) (keptIn (phrase .mask) 0 (phrase .nuclei .anchors)) from to ≡ cost phrase from to
 unfolding costOf cost
 cost-is phrase e from to =
-    ap (λ (row : ℕ). fillerCost (phrase .costs) (speechIn (phrase .mask) from to) (length (heldIn (keptIn (phrase .mask) row (phrase .nuclei .anchors)) from to))) (sym e)
+    ap (λ (row : ℕ). fillerCost (phrase .costs) (speechIn (phrase .mask) from to)
+    (length (heldIn (keptIn (phrase .mask) row (phrase .nuclei .anchors)) from to))) (sym e)
 
 module _ (phrase : Phrase) (stage : Stage) (duration : List Float) (numbered : phrase .nuclei .firstRow ≡ 0)
     (timed : (d : ℕ) → shortestUnit ≤ d → d ≤ longestUnit → getD duration (d - shortestUnit) nan ≡ stage .duration d) where
@@ -43,10 +44,13 @@ module _ (phrase : Phrase) (stage : Stage) (duration : List Float) (numbered : p
   own-ends : (strictness : Strictness) (j : ℕ) → j < length (stage .boundaries)
       → getD (endsIn tables strictness) j 0 ≡ originsEnd strictness (kept phrase stage) (stage .boundaries) j
   unfolding tablesOf
-  own-ends Strict j h = table-at (originsEnd Strict (kept phrase stage) (stage .boundaries)) (length (stage .boundaries)) mostBoundaries 0 0 j h
-  own-ends Relaxed j h = table-at (originsEnd Relaxed (kept phrase stage) (stage .boundaries)) (length (stage .boundaries)) mostBoundaries 0 0 j h
+  own-ends Strict j h =
+      table-at (originsEnd Strict (kept phrase stage) (stage .boundaries)) (length (stage .boundaries)) mostBoundaries 0 0 j h
+  own-ends Relaxed j h =
+      table-at (originsEnd Relaxed (kept phrase stage) (stage .boundaries)) (length (stage .boundaries)) mostBoundaries 0 0 j h
 
-  own-sinces : (strictness : Strictness) (s : ℕ) → s < unitCounts → getD (sinceIn tables strictness) s 0 ≡ reachedIn phrase stage strictness s
+  own-sinces : (strictness : Strictness) (s : ℕ) → s < unitCounts
+      → getD (sinceIn tables strictness) s 0 ≡ reachedIn phrase stage strictness s
   unfolding tablesOf
   own-sinces Strict s h = getD-listed (reachedIn phrase stage Strict) unitCounts s 0 h
   own-sinces Relaxed s h = getD-listed (reachedIn phrase stage Relaxed) unitCounts s 0 h
@@ -58,30 +62,38 @@ module _ (phrase : Phrase) (stage : Stage) (duration : List Float) (numbered : p
     sized = refl;
     bounded = λ i h. table-at (λ j. getD (stage .boundaries) j 0) (length (stage .boundaries)) mostBoundaries 0 0 i h;
     started = λ i h.
-        table-at (λ j. neg (costOf (phrase .costs) (phrase .mask) (keptIn (phrase .mask) 0 (phrase .nuclei .anchors)) 0 (edge (stage .boundaries) (length (phrase .mask)) j)))
+        table-at (λ j. neg
+        (costOf (phrase .costs) (phrase .mask) (keptIn (phrase .mask) 0 (phrase .nuclei .anchors)) 0
+        (edge (stage .boundaries) (length (phrase .mask)) j)))
         (length (stage .boundaries)) mostBoundaries noCost nan i h
         ∙ ap neg (cost-is phrase numbered 0 (edge (stage .boundaries) (length (phrase .mask)) i) ∙ ap (cost phrase 0) (here i h));
     gapped = λ i h.
         table-at (λ j.
-        costOf (phrase .costs) (phrase .mask) (keptIn (phrase .mask) 0 (phrase .nuclei .anchors)) (edge (stage .boundaries) (length (phrase .mask)) j)
+        costOf (phrase .costs) (phrase .mask) (keptIn (phrase .mask) 0 (phrase .nuclei .anchors))
+        (edge (stage .boundaries) (length (phrase .mask)) j)
         (edge (stage .boundaries) (length (phrase .mask)) (j + 1)))
         (length (stage .boundaries)) mostBoundaries noCost nan i (omega arith)
         ∙ cost-is phrase numbered _ _
-        ∙ ap₂ (cost phrase) (here i (omega arith)) (ap (λ (n : ℕ). edge (stage .boundaries) (length (phrase .mask)) n) (add-one i) ∙ here (suc i) h);
+        ∙ ap₂ (cost phrase) (here i (omega arith))
+        (ap (λ (n : ℕ). edge (stage .boundaries) (length (phrase .mask)) n) (add-one i) ∙ here (suc i) h);
     stopped = λ i h.
         table-at (λ j.
-        costOf (phrase .costs) (phrase .mask) (keptIn (phrase .mask) 0 (phrase .nuclei .anchors)) (edge (stage .boundaries) (length (phrase .mask)) j) (length (phrase .mask)))
+        costOf (phrase .costs) (phrase .mask) (keptIn (phrase .mask) 0 (phrase .nuclei .anchors))
+        (edge (stage .boundaries) (length (phrase .mask)) j) (length (phrase .mask)))
         (length (stage .boundaries)) mostBoundaries noCost nan i h
         ∙ cost-is phrase numbered _ _ ∙ ap (λ (b : ℕ). cost phrase b (length (phrase .mask))) (here i h);
     lows = λ j h. table-at (lowOrigin (kept phrase stage) (stage .boundaries)) (length (stage .boundaries)) mostBoundaries 0 0 j h;
     ends = own-ends;
-    rows = λ j h. table-at (λ i. rowBefore 0 (kept phrase stage) (getD (stage .boundaries) i 0)) (length (stage .boundaries)) mostBoundaries 0 0 j h;
+    rows =
+        λ j h. table-at (λ i. rowBefore 0 (kept phrase stage) (getD (stage .boundaries) i 0))
+        (length (stage .boundaries)) mostBoundaries 0 0 j h;
     sinces = own-sinces;
     durations = timed;
   }
 
 -- The tables that stand in two lists.
-pub laid : (mask nuclei anchors : List ℕ) (firstRow : ℕ) (bounds : List ℕ) (duration : List Float) (costs : Costs) (words : List ℕ) (figures : List Float)
+pub laid : (mask nuclei anchors : List ℕ) (firstRow : ℕ) (bounds : List ℕ) (duration : List Float) (costs : Costs) (words : List ℕ)
+    (figures : List Float)
     → Searched (keptIn mask firstRow anchors) bounds words
     → Fills costs mask (keptIn mask 0 nuclei) bounds (tableAt startsAt figures) (tableAt gapsAt figures) (tableAt stopsAt figures)
     → durationsIn figures ≡ duration

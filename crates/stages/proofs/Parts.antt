@@ -9,7 +9,8 @@ use borrow.Rule.Slice.PartMut.{postOf, putMid, take-put, same-len-mid}
 use Rattle.laws.proofs.Numbers.{by-order}
 use Rattle.laws.proofs.Listed.{length-listed, getD-listed, written-table, length-table}
 use Rattle.laws.proofs.Lists.{drop-replicate}
-use Rattle.laws.specs.Listed.{listed, tableOf, written}
+use Rattle.laws.specs.Listed.{listed}
+use Rattle.laws.specs.inner.Tables.{tableOf, written}
 use Rattle.limits.specs.Capacity.{mostBoundaries}
 use Rattle.stages.specs.Lists.{tableAt}
 
@@ -37,11 +38,13 @@ module _ {A : Type 0} where
       front x f =
           sym (ap (drop b) (take-take (b + m) a x h ∙ take-add b m x) ∙ drop-at (take b x) (take m (drop b x)) b (length-take-le b x f))
 
-  pub put-after : (a k b m : ℕ) (l p : List A) → a + k ≤ b → a + k ≤ length l → length p ≡ k → take m (drop b (putMid a k l p)) ≡ take m (drop b l)
+  pub put-after : (a k b m : ℕ) (l p : List A) → a + k ≤ b → a + k ≤ length l → length p ≡ k
+      → take m (drop b (putMid a k l p)) ≡ take m (drop b l)
   put-after a k b m l p h g e = ap (take m) (back (putMid a k l p) ∙ ap (drop (b - (a + k))) rest ∙ sym (back l))
     where
       back : (x : List A) → drop b x ≡ drop (b - (a + k)) (drop (a + k) x)
-      back x = let whole : b ≡ a + k + (b - (a + k)) = omega arith in ap (λ (n : ℕ). drop n x) whole ∙ sym (drop-drop (b - (a + k)) (a + k) x)
+      back x =
+          let whole : b ≡ a + k + (b - (a + k)) = omega arith in ap (λ (n : ℕ). drop n x) whole ∙ sym (drop-drop (b - (a + k)) (a + k) x)
 
       rest : drop (a + k) (putMid a k l p) ≡ drop (a + k) l
       rest =
@@ -156,18 +159,23 @@ module _ {A : Type 0} {spare : A} {m : ℕ} {table : ℕ → List A} where
   laying-long {k} {l} laying h = ap length (laying .fresh k (omega arith) h) ∙ length-replicate mostBoundaries spare
 
   pub laying-next : {k n : ℕ} {l out : List A} (g : ℕ → A) → Laying spare m table k l → k < m → n ≤ mostBoundaries
-      → out ≡ written g n (tableAt (k * mostBoundaries) l) → tableOf g n mostBoundaries spare ≡ table k → Laying spare m table (k + 1) (putMid (k * mostBoundaries) mostBoundaries l out)
+      → out ≡ written g n (tableAt (k * mostBoundaries) l) → tableOf g n mostBoundaries spare ≡ table k
+      → Laying spare m table (k + 1) (putMid (k * mostBoundaries) mostBoundaries l out)
   laying-next {k} {n} {l} {out} g laying h few e is = record {
-    long = same-len-mid (k * mostBoundaries) mostBoundaries l out (ap length filled ∙ length-table g n mostBoundaries spare few ∙ sym (laying-long laying h))
+    long =
+        same-len-mid (k * mostBoundaries) mostBoundaries l out
+        (ap length filled ∙ length-table g n mostBoundaries spare few ∙ sym (laying-long laying h))
         ∙ laying .long;
     laid = λ j before. by-order j k
-        (λ less. put-before (k * mostBoundaries) mostBoundaries (j * mostBoundaries) mostBoundaries l out (omega arith) (omega (arith, laying .long)) ∙ laying .laid j less)
+        (λ less. put-before (k * mostBoundaries) mostBoundaries (j * mostBoundaries) mostBoundaries l out (omega arith)
+        (omega (arith, laying .long)) ∙ laying .laid j less)
         (λ more.
         let here : j ≡ k = omega arith in
         ap (λ (i : ℕ). tableAt (i * mostBoundaries) (putMid (k * mostBoundaries) mostBoundaries l out)) here
         ∙ put-here (k * mostBoundaries) mostBoundaries l out (omega (arith, laying .long)) full ∙ filled ∙ is ∙ ap table (sym here));
     fresh = λ j after within.
-        put-after (k * mostBoundaries) mostBoundaries (j * mostBoundaries) mostBoundaries l out (omega arith) (omega (arith, laying .long)) full ∙ laying .fresh j (omega arith) within;
+        put-after (k * mostBoundaries) mostBoundaries (j * mostBoundaries) mostBoundaries l out (omega arith)
+        (omega (arith, laying .long)) full ∙ laying .fresh j (omega arith) within;
   }
     where
       filled : out ≡ tableOf g n mostBoundaries spare

@@ -7,7 +7,7 @@ use native.Mathlib.Omega.{arith}
 use lib.Dec.{T, ltb, ltb→lt, nltb→le}
 use lib.ListN.{length, getD, replicate}
 use Rattle.laws.proofs.Numbers.{by-order}
-use Rattle.laws.specs.Listed.{padded}
+use Rattle.laws.specs.inner.Tables.{padded}
 use Rattle.stages.specs.Places.{Climbs, countBelow}
 
 -- A frame below the bound counts one, any other nothing.
@@ -31,10 +31,25 @@ below-mono [] bound further h = omega arith
 below-mono (frame ∷ frames) bound further h =
     let known = below-mono frames bound further h in
     by-order frame bound
-    (λ less. omega (arith, known, one-counted frame bound (countBelow frames bound) less, one-counted frame further (countBelow frames further) (omega arith)))
+    (λ less. omega (
+      arith,
+      known,
+      one-counted frame bound (countBelow frames bound) less,
+      one-counted frame further (countBelow frames further) (omega arith),
+    ))
     (λ more. by-order frame further
-    (λ less. omega (arith, known, none-counted frame bound (countBelow frames bound) more, one-counted frame further (countBelow frames further) less))
-    (λ more′. omega (arith, known, none-counted frame bound (countBelow frames bound) more, none-counted frame further (countBelow frames further) more′)))
+    (λ less. omega (
+      arith,
+      known,
+      none-counted frame bound (countBelow frames bound) more,
+      one-counted frame further (countBelow frames further) less,
+    ))
+    (λ more′. omega (
+      arith,
+      known,
+      none-counted frame bound (countBelow frames bound) more,
+      none-counted frame further (countBelow frames further) more′,
+    )))
 
 pub below-le : (frames : List ℕ) (bound : ℕ) → countBelow frames bound ≤ length frames
 unfolding countBelow
@@ -49,14 +64,16 @@ pub none-below : (frames : List ℕ) (low high bound : ℕ) → Climbs low high 
 unfolding countBelow
 none-below [] low high bound c h = refl
 none-below (frame ∷ frames) low high bound c h =
-    none-counted frame bound (countBelow frames bound) (omega (arith, c .0)) ∙ none-below frames frame high bound (c .1) (omega (arith, c .0))
+    none-counted frame bound (countBelow frames bound) (omega (arith, c .0))
+    ∙ none-below frames frame high bound (c .1) (omega (arith, c .0))
 
 climbs-at : (frames : List ℕ) (low high p : ℕ) → Climbs low high frames → p < length frames → low ≤ getD frames p 0
 climbs-at [] low high p c h = omega arith
 climbs-at (frame ∷ frames) low high zero c h = c .0
 climbs-at (frame ∷ frames) low high (suc p) c h = omega (arith, c .0, climbs-at frames frame high p (c .1) (omega arith))
 
-pub is-below : (frames : List ℕ) (low high bound p : ℕ) → Climbs low high frames → p < length frames → getD frames p 0 < bound → p < countBelow frames bound
+pub is-below : (frames : List ℕ) (low high bound p : ℕ) → Climbs low high frames → p < length frames → getD frames p 0 < bound
+    → p < countBelow frames bound
 unfolding countBelow
 is-below [] low high bound p c h k = omega arith
 is-below (frame ∷ frames) low high bound zero c h k = omega (arith, one-counted frame bound (countBelow frames bound) k)
@@ -67,7 +84,8 @@ is-below (frame ∷ frames) low high bound (suc p) c h k =
       one-counted frame bound (countBelow frames bound) (omega (arith, climbs-at frames frame high p (c .1) (omega arith))),
     )
 
-pub not-below : (frames : List ℕ) (low high bound p : ℕ) → Climbs low high frames → p < length frames → bound ≤ getD frames p 0 → countBelow frames bound ≤ p
+pub not-below : (frames : List ℕ) (low high bound p : ℕ) → Climbs low high frames → p < length frames → bound ≤ getD frames p 0
+    → countBelow frames bound ≤ p
 unfolding countBelow
 not-below [] low high bound p c h k = omega arith
 not-below (frame ∷ frames) low high bound zero c h k =
@@ -96,6 +114,7 @@ unfolding countBelow
 count-on [] n spare bound h = none-below (replicate n spare) bound spare bound (level n bound spare h) (omega arith)
 count-on (frame ∷ frames) n spare bound h = ap (λ (rest : ℕ). cond (ltb frame bound) (suc rest) rest) (count-on frames n spare bound h)
 
-pub count-padded : (frames : List ℕ) (size spare bound : ℕ) → bound ≤ spare → countBelow (padded frames size spare) bound ≡ countBelow frames bound
+pub count-padded : (frames : List ℕ) (size spare bound : ℕ) → bound ≤ spare
+    → countBelow (padded frames size spare) bound ≡ countBelow frames bound
 unfolding padded
 count-padded frames size spare bound h = count-on frames (size - length frames) spare bound h

@@ -10,7 +10,8 @@ use lib.ListN.{length, getD, take, drop, length-map}
 use Rattle.laws.proofs.Numbers.{by-order}
 use Rattle.laws.proofs.Listed.{length-padded, listed-same, table-at, table-same}
 use Rattle.laws.proofs.Range.{first-same}
-use Rattle.laws.specs.Listed.{listed, padded, tableOf}
+use Rattle.laws.specs.Listed.{listed}
+use Rattle.laws.specs.inner.Tables.{padded, tableOf}
 use Rattle.paths.specs.declared.passes.Strictness.the-variants.{Strict, Relaxed}
 use Rattle.paths.specs.Anchors.{Anchor, heldIn, rowOr}
 use Rattle.paths.specs.Units.{fitsUnit, admitsUnit}
@@ -117,7 +118,8 @@ module _ {mask : List ℕ} {anchors : List Anchor} {frames bounds places : List 
 
   frame-from : (place : ℕ) → place < anchorRoom → entryOf frames place ≡ frameOr absent (drop place anchors)
   frame-from place h =
-      ap (λ (l : List ℕ). getD l place 0) (p .framed) ∙ figure-from (λ a. a .frame) (frameOr absent) (λ _ _. refl) anchors anchorRoom place h
+      ap (λ (l : List ℕ). getD l place 0) (p .framed)
+      ∙ figure-from (λ a. a .frame) (frameOr absent) (λ _ _. refl) anchors anchorRoom place h
 
   first-at : (j : ℕ) → j < length bounds → entryOf frames (entryOf places j) ≡ firstAhead absent anchors (getD bounds j 0)
   unfolding firstAhead
@@ -169,7 +171,8 @@ module _ {mask : List ℕ} {anchors : List Anchor} {frames bounds places : List 
             (take originsLong (drop lowsAt words))
         ranged = ranged-by first-at second-at (lays .ranged)
 
-        inner : (at : ℕ) → at + mostBoundaries ≤ originsLong → tableAt (lowsAt + at) words ≡ tableAt at (take originsLong (drop lowsAt words))
+        inner : (at : ℕ) → at + mostBoundaries ≤ originsLong
+            → tableAt (lowsAt + at) words ≡ tableAt at (take originsLong (drop lowsAt words))
         inner at h = sym (part-part at mostBoundaries lowsAt originsLong words h (omega (arith, lays .whole)))
 
         lows : tableAt lowsAt words ≡ tableOf (lowOrigin anchors bounds) (length bounds) mostBoundaries 0

@@ -9,7 +9,8 @@ use Rattle.paths.specs.Frames.{weight, speechFrom, speechIn}
 use Rattle.paths.proofs.Frames.{speechIn-split}
 
 -- one frame more
-pub from-next : (mask : List ℕ) (from at : ℕ) → from ≤ at → speechFrom mask from (at + 1 - from) ≡ speechFrom mask from (at - from) + weight (getD mask at 0)
+pub from-next : (mask : List ℕ) (from at : ℕ) → from ≤ at
+    → speechFrom mask from (at + 1 - from) ≡ speechFrom mask from (at - from) + weight (getD mask at 0)
 unfolding speechFrom
 from-next mask from at h =
     let e : at + 1 - from ≡ suc (at - from) = omega arith in

@@ -7,7 +7,7 @@ use lib.ListN.{length, getD, length-map}
 use lib.Ieee.{Float, neg}
 use Rattle.laws.proofs.Numbers.{by-order}
 use Rattle.laws.proofs.Listed.{table-at, table-same, length-table, length-padded}
-use Rattle.laws.specs.Listed.{padded, tableOf}
+use Rattle.laws.specs.inner.Tables.{padded, tableOf}
 use Rattle.phrase.specs.declared.costs.Costs.{Costs}
 use Rattle.phrase.specs.Filler.{fillerCost}
 use Rattle.paths.proofs.Frames.{speechIn-split}
@@ -32,7 +32,8 @@ pub record Orderly (mask : List ℕ) (anchors : List Anchor) : Type 0 where
   pub rising : Rising 0 anchors
   pub few : length anchors ≤ mostAnchors
 
-pub kept-orderly : (mask : List ℕ) (row : ℕ) (frames : List ℕ) → length mask < 2 ^ 32 → FitList mostAnchors frames → Orderly mask (keptIn mask row frames)
+pub kept-orderly : (mask : List ℕ) (row : ℕ) (frames : List ℕ) → length mask < 2 ^ 32 → FitList mostAnchors frames
+    → Orderly mask (keptIn mask row frames)
 kept-orderly mask row frames h fit = record {
   below = kept-below mask row frames;
   climbs = kept-climbs mask absent 0 row frames (omega arith) (omega arith) (fit .ascending) (λ _. omega arith);
@@ -41,7 +42,8 @@ kept-orderly mask row frames h fit = record {
 }
 
 -- An array of frames, as the code of places asks it.
-module _ {mask : List ℕ} {anchors : List Anchor} {frames : List ℕ} (orderly : Orderly mask anchors) (framed : frames ≡ padded (framesOf anchors) anchorRoom absent) where
+module _ {mask : List ℕ} {anchors : List Anchor} {frames : List ℕ} (orderly : Orderly mask anchors)
+    (framed : frames ≡ padded (framesOf anchors) anchorRoom absent) where
   pub array-climbs : Climbs 0 absent frames
   array-climbs = rw framed (climbs-padded (framesOf anchors) anchorRoom 0 absent (orderly .climbs))
 
@@ -52,7 +54,9 @@ module _ {mask : List ℕ} {anchors : List Anchor} {frames : List ℕ} (orderly 
   place-le bound h = omega (arith, place-is bound h, below-le (framesOf anchors) bound, length-map anchors (λ (a : Anchor). a .frame))
 
   pub array-long : length frames ≡ anchorRoom
-  array-long = ap length framed ∙ length-padded (framesOf anchors) anchorRoom absent (omega (arith, length-map anchors (λ (a : Anchor). a .frame), orderly .few))
+  array-long =
+      ap length framed
+      ∙ length-padded (framesOf anchors) anchorRoom absent (omega (arith, length-map anchors (λ (a : Anchor). a .frame), orderly .few))
 
   pub array-ends : countBelow frames absent < length frames
   array-ends = omega (arith, place-le absent (omega arith), array-long, orderly .few)
@@ -67,7 +71,8 @@ pub record Placing (mask : List ℕ) (anchors : List Anchor) (frames bounds plac
 
 module _ {mask : List ℕ} {anchors : List Anchor} {frames bounds places : List ℕ} (p : Placing mask anchors frames bounds places) where
   table-place : (j : ℕ) → j ≤ length bounds → getD places j 0 ≡ placeBefore frames bounds j
-  table-place j h = ap (λ (l : List ℕ). getD l j 0) (p .placed) ∙ table-at (placeBefore frames bounds) (length bounds + 1) mostEdges 0 0 j (omega arith)
+  table-place j h =
+      ap (λ (l : List ℕ). getD l j 0) (p .placed) ∙ table-at (placeBefore frames bounds) (length bounds + 1) mostEdges 0 0 j (omega arith)
 
   pub place-at : (j : ℕ) → j < length bounds → getD places j 0 ≡ countBelow (framesOf anchors) (getD bounds j 0)
   place-at j h =
@@ -91,7 +96,8 @@ module _ {mask : List ℕ} {anchors : List Anchor} {frames bounds places : List 
           ∙ all-below anchors (length mask) absent (p .orderly .below) (omega (arith, p .fit .framed))
           ∙ sym (all-below anchors (length mask) (length mask) (p .orderly .below) (omega arith))
           ∙ sym (held-count anchors (length mask))
-          ∙ ap (λ (b : ℕ). length (heldIn anchors 0 b)) (sym (ap (λ (n : ℕ). edge bounds (length mask) n) e ∙ edge-end bounds (length mask)))
+          ∙ ap (λ (b : ℕ). length (heldIn anchors 0 b))
+          (sym (ap (λ (n : ℕ). edge bounds (length mask) n) e ∙ edge-end bounds (length mask)))
 
   -- from edge to edge
   held-between : (i j : ℕ) → i ≤ j → j ≤ length bounds
@@ -100,10 +106,13 @@ module _ {mask : List ℕ} {anchors : List Anchor} {frames bounds places : List 
       held-at j k
       ∙ held-on anchors (length mask) (edge bounds (length mask) i) (edge bounds (length mask) j) (p .orderly .below)
       (edges-climb bounds (length mask) (p .fit .listed .ascending) i j h k)
-      ∙ ap (λ (n : ℕ). n + length (heldIn anchors (edge bounds (length mask) i) (edge bounds (length mask) j))) (sym (held-at i (omega arith)))
+      ∙ ap (λ (n : ℕ). n + length (heldIn anchors (edge bounds (length mask) i) (edge bounds (length mask) j)))
+      (sym (held-at i (omega arith)))
 
   pub places-long : length places ≡ mostEdges
-  places-long = ap length (p .placed) ∙ length-table (placeBefore frames bounds) (length bounds + 1) mostEdges 0 (omega (arith, p .fit .listed .short))
+  places-long =
+      ap length (p .placed)
+      ∙ length-table (placeBefore frames bounds) (length bounds + 1) mostEdges 0 (omega (arith, p .fit .listed .short))
 
   pub places-ascend : Ascends places (length bounds)
   places-ascend i j h k = record {
@@ -118,7 +127,8 @@ module _ {mask : List ℕ} {anchors : List Anchor} {frames bounds places : List 
   -- The filler costs by the counts.
   module _ {speech : List ℕ} (counted : speech ≡ tableOf (speechBefore mask bounds) (length bounds + 1) mostEdges 0) where
     speech-at : (j : ℕ) → j ≤ length bounds → getD speech j 0 ≡ speechIn mask 0 (edge bounds (length mask) j)
-    speech-at j h = ap (λ (l : List ℕ). getD l j 0) counted ∙ table-at (speechBefore mask bounds) (length bounds + 1) mostEdges 0 0 j (omega arith)
+    speech-at j h =
+        ap (λ (l : List ℕ). getD l j 0) counted ∙ table-at (speechBefore mask bounds) (length bounds + 1) mostEdges 0 0 j (omega arith)
 
     speech-between : (i j : ℕ) → i ≤ j → j ≤ length bounds
         → getD speech j 0 ≡ getD speech i 0 + speechIn mask (edge bounds (length mask) i) (edge bounds (length mask) j)
@@ -129,7 +139,8 @@ module _ {mask : List ℕ} {anchors : List Anchor} {frames bounds places : List 
         ∙ ap (λ (n : ℕ). n + speechIn mask (edge bounds (length mask) i) (edge bounds (length mask) j)) (sym (speech-at i (omega arith)))
 
     speech-long : length speech ≡ mostEdges
-    speech-long = ap length counted ∙ length-table (speechBefore mask bounds) (length bounds + 1) mostEdges 0 (omega (arith, p .fit .listed .short))
+    speech-long =
+        ap length counted ∙ length-table (speechBefore mask bounds) (length bounds + 1) mostEdges 0 (omega (arith, p .fit .listed .short))
 
     pub speech-ascends : Ascends speech (length bounds)
     speech-ascends i j h k = record {
@@ -147,13 +158,18 @@ module _ {mask : List ℕ} {anchors : List Anchor} {frames bounds places : List 
         → Fills costs mask anchors bounds start gap stop
     unfolding costOf
     fills {costs} priced = record {
-      started = priced .started ∙ table-same (startAt costs speech places) (λ j. neg (costOf costs mask anchors 0 (edge bounds (length mask) j))) (length bounds) mostBoundaries noCost
+      started =
+          priced .started
+          ∙ table-same (startAt costs speech places) (λ j. neg (costOf costs mask anchors 0 (edge bounds (length mask) j)))
+          (length bounds) mostBoundaries noCost
           (λ j h. ap₂ (λ (s n : ℕ). neg (fillerCost costs s n)) (speech-at j (omega arith)) (held-at j (omega arith)));
       gapped = priced .gapped
-          ∙ table-same (λ j. stretch costs speech places j (j + 1)) (λ j. costOf costs mask anchors (edge bounds (length mask) j) (edge bounds (length mask) (j + 1)))
+          ∙ table-same (λ j. stretch costs speech places j (j + 1))
+          (λ j. costOf costs mask anchors (edge bounds (length mask) j) (edge bounds (length mask) (j + 1)))
           (length bounds) mostBoundaries noCost (λ j h. stretch-is costs j (j + 1) (omega arith) (omega arith));
       stopped = priced .stopped
-          ∙ table-same (λ j. stretch costs speech places j (length bounds)) (λ j. costOf costs mask anchors (edge bounds (length mask) j) (length mask)) (length bounds) mostBoundaries noCost
+          ∙ table-same (λ j. stretch costs speech places j (length bounds))
+          (λ j. costOf costs mask anchors (edge bounds (length mask) j) (length mask)) (length bounds) mostBoundaries noCost
           (λ j h.
           stretch-is costs j (length bounds) (omega arith) (omega arith)
           ∙ ap (λ (b : ℕ). costOf costs mask anchors (edge bounds (length mask) j) b) (edge-end bounds (length mask)));

@@ -3,7 +3,7 @@ use Prim.Native.Nat.{ℕ}
 use mathlib.Core.Path.{_≡_}
 use mathlib.Core.List.{List, map}
 use lib.ListN.{length}
-use Rattle.laws.specs.Listed.{padded}
+use Rattle.laws.specs.inner.Tables.{padded}
 use Rattle.paths.specs.Anchors.{Anchor}
 use Rattle.limits.specs.Capacity.{anchorRoom}
 use Rattle.limits.specs.Common.{absent}

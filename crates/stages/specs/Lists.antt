@@ -1,5 +1,5 @@
--- Where the tables of a stage stand in its two lent lists, of words and of figures, as src/lists.rt has it; Tables.antt says what each entry
--- is. Each table by boundary has room for the most boundaries.
+-- Where the tables of a stage stand in its two lent lists, of words and of figures, as src/lists.rt has it; Tables.antt says what each
+-- entry is. Each table by boundary has room for the most boundaries.
 use Prim.Native.Nat.{ℕ, _+_, _-_, _*_}
 use mathlib.Core.List.{List}
 use lib.Ieee.{Float}

@@ -3,7 +3,8 @@ use Prim.Native.Nat.{ℕ, _+_}
 use mathlib.Core.List.{List}
 use lib.ListN.{length, getD}
 use lib.Ieee.{Float, neg}
-use Rattle.laws.specs.Listed.{listed, tableOf}
+use Rattle.laws.specs.Listed.{listed}
+use Rattle.laws.specs.inner.Tables.{tableOf}
 use Rattle.phrase.specs.declared.costs.Costs.{Costs}
 use Rattle.paths.specs.Anchors.{keptIn}
 use Rattle.paths.specs.declared.passes.Strictness.the-variants.{Strict, Relaxed}

@@ -4,10 +4,12 @@ use mathlib.Core.Path.{_≡_}
 use mathlib.Core.List.{List}
 use lib.ListN.{length, getD}
 use lib.Ieee.{Float, neg}
-use Rattle.laws.specs.Listed.{listed, tableOf}
+use Rattle.laws.specs.Listed.{listed}
+use Rattle.laws.specs.inner.Tables.{tableOf}
 use Rattle.phrase.specs.declared.costs.Costs.{Costs}
 use Rattle.phrase.specs.Filler.{fillerCost}
-use Rattle.paths.specs.Frames.{Increasing, speechIn}
+use Rattle.paths.specs.Frames.{speechIn}
+use Rattle.paths.specs.inner.Order.{Increasing}
 use Rattle.paths.specs.Anchors.{Anchor, heldIn}
 use Rattle.paths.specs.declared.passes.Strictness.the-variants.{Strict, Relaxed}
 use Rattle.paths.specs.inner.Ranges.{lowOrigin, originsEnd, firstReached, rowBefore}
@@ -32,8 +34,11 @@ costOf costs mask nuclei from to = fillerCost costs (speechIn mask from to) (len
 -- The filler costs: of the start (negated), of the gap to the next edge, of the end.
 pub record Fills (costs : Costs) (mask : List ℕ) (nuclei : List Anchor) (bounds : List ℕ) (start gap stop : List Float) : Type 0 where
   pub started : start ≡ tableOf (λ j. neg (costOf costs mask nuclei 0 (edge bounds (length mask) j))) (length bounds) mostBoundaries noCost
-  pub gapped : gap ≡ tableOf (λ j. costOf costs mask nuclei (edge bounds (length mask) j) (edge bounds (length mask) (j + 1))) (length bounds) mostBoundaries noCost
-  pub stopped : stop ≡ tableOf (λ j. costOf costs mask nuclei (edge bounds (length mask) j) (length mask)) (length bounds) mostBoundaries noCost
+  pub gapped : gap
+      ≡ tableOf (λ j. costOf costs mask nuclei (edge bounds (length mask) j) (edge bounds (length mask) (j + 1)))
+      (length bounds) mostBoundaries noCost
+  pub stopped : stop
+      ≡ tableOf (λ j. costOf costs mask nuclei (edge bounds (length mask) j) (length mask)) (length bounds) mostBoundaries noCost
 
 -- The words that the search reads, by the kept anchors of the stage.
 pub record Searched (anchors : List Anchor) (bounds words : List ℕ) : Type 0 where

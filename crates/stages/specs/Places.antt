@@ -5,7 +5,7 @@ use mathlib.Core.Bool.{cond}
 use mathlib.Core.List.{List, [], _∷_}
 use lib.Dec.{ltb}
 use lib.ListN.{length}
-use Rattle.laws.specs.Listed.{padded, tableOf}
+use Rattle.laws.specs.inner.Tables.{padded, tableOf}
 use Rattle.paths.specs.Anchors.{Anchor}
 use Rattle.limits.specs.Capacity.{mostEdges, anchorRoom}
 use Rattle.stages.specs.Kept.{framesOf, rowsOf}

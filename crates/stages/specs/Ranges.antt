@@ -6,7 +6,7 @@ use mathlib.Core.List.{List}
 use mathlib.Core.Path.{_≡_}
 use lib.Dec.{eqb, leb, ltb}
 use lib.ListN.{length, getD, set}
-use Rattle.laws.specs.Listed.{tableOf}
+use Rattle.laws.specs.inner.Tables.{tableOf}
 use Rattle.laws.specs.inner.Range.{firstFrom, pastLast}
 use Rattle.paths.specs.Units.{fitsUnit}
 use Rattle.limits.specs.Capacity.{mostBoundaries}

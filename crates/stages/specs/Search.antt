@@ -3,7 +3,8 @@ use Prim.Native.Nat.{ℕ, zero, suc, _+_, _≤_, _<_}
 use mathlib.Core.Path.{_≡_}
 use mathlib.Core.List.{List}
 use lib.ListN.{length, take, drop, replicate}
-use Rattle.laws.specs.Listed.{listed, tableOf}
+use Rattle.laws.specs.Listed.{listed}
+use Rattle.laws.specs.inner.Tables.{tableOf}
 use Rattle.paths.specs.inner.Ranges.{firstReached}
 use Rattle.limits.specs.Capacity.{mostBoundaries, unitCounts}
 use Rattle.stages.specs.Lists.{boundsAt, lowsAt, middlesAt, highsAt, rowsAt, spanStartsAt, sinceStrictAt, sinceRelaxedAt, wordsLong, originsLong, spansLong, tableAt, countsAt}

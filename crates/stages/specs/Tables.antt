@@ -15,8 +15,8 @@ use Rattle.paths.specs.StageProblem.{cost, boundary}
 use Rattle.limits.specs.Capacity.{unitCounts}
 use Rattle.stages.specs.Lists.{boundsAt, lowsAt, middlesAt, highsAt, rowsAt, sinceStrictAt, sinceRelaxedAt, startsAt, gapsAt, stopsAt, tableAt, countsAt, durationsIn}
 
--- For each boundary its frame; the filler costs of the start (negated), of the gap to the next boundary and of the end; of the units that end
--- there the lowest origin, and one past the highest of those that hold an anchor and of all; and the score row of the last kept anchor
+-- For each boundary its frame; the filler costs of the start (negated), of the gap to the next boundary and of the end; of the units that
+-- end there the lowest origin, and one past the highest of those that hold an anchor and of all; and the score row of the last kept anchor
 -- before it. Entries from `size` on mean nothing. For each count of units, and each strictness, the first boundary reached. Durations go by
 -- a unit's length, from the shortest on.
 pub record StageTables : Type 0 where
@@ -45,7 +45,9 @@ sinceIn t Relaxed = t .sinceRelaxed
 -- the first boundary that a path of s units reaches in a stage
 abbrev pub reachedIn : Phrase → Stage → Strictness → ℕ → ℕ
 reachedIn phrase stage strictness s =
-    firstReached (lowOrigin (kept phrase stage) (stage .boundaries)) (originsEnd strictness (kept phrase stage) (stage .boundaries)) (length (stage .boundaries)) s
+    firstReached
+    (lowOrigin (kept phrase stage) (stage .boundaries)) (originsEnd strictness (kept phrase stage) (stage .boundaries))
+    (length (stage .boundaries)) s
 
 pub record Tabled (phrase : Phrase) (stage : Stage) (t : StageTables) : Type 0 where
   pub sized : t .size ≡ length (stage .boundaries)
@@ -54,7 +56,9 @@ pub record Tabled (phrase : Phrase) (stage : Stage) (t : StageTables) : Type 0 w
   pub gapped : (i : ℕ) → suc i < t .size → getD (t .gap) i nan ≡ cost phrase (boundary stage i) (boundary stage (suc i))
   pub stopped : (i : ℕ) → i < t .size → getD (t .stop) i nan ≡ cost phrase (boundary stage i) (length (phrase .mask))
   pub lows : (j : ℕ) → j < t .size → getD (t .low) j 0 ≡ lowOrigin (kept phrase stage) (stage .boundaries) j
-  pub ends : (strictness : Strictness) (j : ℕ) → j < t .size → getD (endsIn t strictness) j 0 ≡ originsEnd strictness (kept phrase stage) (stage .boundaries) j
+  pub ends :
+      (strictness : Strictness) (j : ℕ) → j < t .size →
+      getD (endsIn t strictness) j 0 ≡ originsEnd strictness (kept phrase stage) (stage .boundaries) j
   pub rows : (j : ℕ) → j < t .size → getD (t .row) j 0 ≡ rowBefore 0 (kept phrase stage) (boundary stage j)
   pub sinces : (strictness : Strictness) (s : ℕ) → s < unitCounts → getD (sinceIn t strictness) s 0 ≡ reachedIn phrase stage strictness s
   pub durations : (d : ℕ) → shortestUnit ≤ d → d ≤ longestUnit → getD (t .duration) (d - shortestUnit) nan ≡ stage .duration d

@@ -5,11 +5,12 @@ use limits::common::ABSENT;
 ghost use mathlib.Core.Path.{_≡_};
 ghost use Prim.Native.Nat.{_+_, _<_, _≤_, _^_};
 ghost use lib.ListN.{length, replicate};
-ghost use Rattle.paths.specs.Frames.{Increasing, withinMask};
+ghost use Rattle.paths.specs.Frames.{withinMask};
+ghost use Rattle.paths.specs.inner.Order.{Increasing};
 ghost use Rattle.paths.specs.Anchors.{keptIn};
 ghost use Rattle.paths.specs.Passes.{nonEmpty};
 ghost use Rattle.limits.specs.Capacity.{mostAnchors, mostEdges, anchorRoom};
-ghost use Rattle.laws.specs.Listed.{written};
+ghost use Rattle.laws.specs.inner.Tables.{written};
 ghost use Rattle.limits.specs.Common.{absent};
 ghost use Rattle.stages.specs.Kept.{Keeps};
 ghost use Rattle.stages.specs.Places.{Climbs, countBelow, placeBefore, AnchorsPlaced};
@@ -27,8 +28,8 @@ pub fn within(mask: &[u8], frame: u32) -> bool
     }
 }
 
-// The anchors within the mask, in fresh arrays: their frames, then `ABSENT`, which no boundary passes, and their score rows. A dropped one leaves its row
-// unused. The answer is how many there are.
+// The anchors within the mask, in fresh arrays: their frames, then `ABSENT`, which no boundary passes, and their score rows. A dropped one
+// leaves its row unused. The answer is how many there are.
 pub fn keep_anchors(
     mask: &[u8],
     anchors: &[u32],
@@ -66,7 +67,8 @@ pub fn has_nucleus(mask: &[u8], nuclei: &[u32]) -> bool
 
 // How many frames are below a bound, where the first `from` of them are known to be. The last frame is never below it.
 fn advance(frames: &[u32], from: usize, bound: u32) -> usize
-    requires { ⌜ Climbs 0 absent (now frames) × (from ≤ countBelow (now frames) bound) × (countBelow (now frames) bound < length (now frames)) ⌝ }
+    requires { ⌜ Climbs 0 absent (now frames) × (from ≤ countBelow (now frames) bound)
+        × (countBelow (now frames) bound < length (now frames)) ⌝ }
     ensures { λ r. ⌜ r ≡ countBelow (now (frames .entry)) bound ⌝ }
 {
     let mut at = from;
@@ -80,7 +82,8 @@ fn advance(frames: &[u32], from: usize, bound: u32) -> usize
 fn place_boundaries(frames: &[u32], bounds: &[u32], places: &mut [u32])
     requires { ⌜ Climbs 0 absent (now frames) × (countBelow (now frames) absent < length (now frames)) × (length (now frames) < 2 ^ 32) ⌝ }
     requires { ⌜ (length (now bounds) < length (now places)) × Increasing (now bounds) ⌝ }
-    ensures { λ _. ⌜ now (places .exit) ≡ written (placeBefore (now (frames .entry)) (now (bounds .entry))) (length (now (bounds .entry)) + 1) (now (places .entry)) ⌝ }
+    ensures { λ _. ⌜ now (places .exit)
+        ≡ written (placeBefore (now (frames .entry)) (now (bounds .entry))) (length (now (bounds .entry)) + 1) (now (places .entry)) ⌝ }
 {
     let mut place = 0;
     let mut j = 0;
@@ -104,7 +107,8 @@ pub fn place_anchors(
 )
     requires { ⌜ Fit (now mask) (now bounds) × FitList mostAnchors (now anchors) × («first_row» + length (now anchors) < 2 ^ 32) ⌝ }
     requires { ⌜ (now frames ≡ replicate anchorRoom absent) × (now rows ≡ replicate anchorRoom 0) × (now places ≡ replicate mostEdges 0) ⌝ }
-    ensures { λ _. ⌜ AnchorsPlaced (keptIn (now (mask .entry)) «first_row» (now (anchors .entry))) (now (bounds .entry)) (now (frames .exit)) (now (rows .exit)) (now (places .exit)) ⌝ }
+    ensures { λ _. ⌜ AnchorsPlaced (keptIn (now (mask .entry)) «first_row» (now (anchors .entry))) (now (bounds .entry))
+        (now (frames .exit)) (now (rows .exit)) (now (places .exit)) ⌝ }
 {
     keep_anchors(mask, anchors, first_row, frames, rows);
     place_boundaries(frames, bounds, places);

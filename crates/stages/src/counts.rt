@@ -3,8 +3,9 @@
 ghost use mathlib.Core.Path.{_≡_};
 ghost use Prim.Native.Nat.{_+_, _<_, _^_, min};
 ghost use lib.ListN.{length};
-ghost use Rattle.paths.specs.Frames.{Increasing, weight as weightOf, speechIn};
-ghost use Rattle.laws.specs.Listed.{written};
+ghost use Rattle.paths.specs.Frames.{weight as weightOf, speechIn};
+ghost use Rattle.paths.specs.inner.Order.{Increasing};
+ghost use Rattle.laws.specs.inner.Tables.{written};
 ghost use Rattle.stages.specs.Edges.{speechBefore};
 
 // What a frame with this mask byte adds to a speech count.
@@ -40,7 +41,8 @@ pub fn speech_in(mask: &[u8], from: u32, to: u32) -> u32
 // How many speech frames there are before each boundary, and at last before the mask's end.
 pub fn count_speech(mask: &[u8], bounds: &[u32], counts: &mut [u32])
     requires { ⌜ (length (now mask) < 2 ^ 32) × (length (now bounds) < length (now counts)) × Increasing (now bounds) ⌝ }
-    ensures { λ _. ⌜ now (counts .exit) ≡ written (speechBefore (now (mask .entry)) (now (bounds .entry))) (length (now (bounds .entry)) + 1) (now (counts .entry)) ⌝ }
+    ensures { λ _. ⌜ now (counts .exit)
+        ≡ written (speechBefore (now (mask .entry)) (now (bounds .entry))) (length (now (bounds .entry)) + 1) (now (counts .entry)) ⌝ }
 {
     let end = mask.len() as u32;
     let mut count = 0;

@@ -17,7 +17,7 @@ ghost use Rattle.paths.specs.Anchors.{keptIn};
 ghost use Rattle.limits.specs.Capacity.{mostAnchors, mostBoundaries};
 ghost use Rattle.stages.specs.Parts.{Fit, FitList, Fills};
 ghost use Rattle.stages.specs.Filler.{Rises, Counts, stretch, startAt, Priced};
-ghost use Rattle.laws.specs.Listed.{written};
+ghost use Rattle.laws.specs.inner.Tables.{written};
 ghost use Rattle.stages.specs.Lists.{fillerLong, gapsAt, startsAt, stopsAt, tableAt};
 
 // The cost of the stretch from edge `i` to edge `j`, of which `speech` and `nuclei` have the counts before each edge.
@@ -43,7 +43,8 @@ fn start_costs(speech: &[u32], nuclei: &[u32], n: usize, costs: Costs, out: &mut
 // that of the gap to the next edge;
 fn gap_costs(speech: &[u32], nuclei: &[u32], n: usize, costs: Costs, out: &mut [f64])
     requires { ⌜ Counts (now speech) (now nuclei) n × (n ≤ length (now out)) ⌝ }
-    ensures { λ _. ⌜ now (out .exit) ≡ written (λ j. stretch costs (now (speech .entry)) (now (nuclei .entry)) j (j + 1)) n (now (out .entry)) ⌝ }
+    ensures { λ _. ⌜ now (out .exit)
+        ≡ written (λ j. stretch costs (now (speech .entry)) (now (nuclei .entry)) j (j + 1)) n (now (out .entry)) ⌝ }
 {
     let mut j = 0;
     while j < n {
@@ -67,7 +68,8 @@ fn stop_costs(speech: &[u32], nuclei: &[u32], n: usize, costs: Costs, out: &mut 
 // The three tables, one after the other.
 fn lay_costs(speech: &[u32], nuclei: &[u32], n: usize, costs: Costs, figures: &mut [f64])
     requires { ⌜ Counts (now speech) (now nuclei) n × (n ≤ mostBoundaries) × (length (now figures) ≡ fillerLong) ⌝ }
-    ensures { λ _. ⌜ Priced costs (now (speech .entry)) (now (nuclei .entry)) n n (tableAt startsAt (now (figures .exit))) (tableAt gapsAt (now (figures .exit))) (tableAt stopsAt (now (figures .exit))) ⌝ }
+    ensures { λ _. ⌜ Priced costs (now (speech .entry)) (now (nuclei .entry)) n n (tableAt startsAt (now (figures .exit)))
+        (tableAt gapsAt (now (figures .exit))) (tableAt stopsAt (now (figures .exit))) ⌝ }
 {
     clear_figures(figures);
     start_costs(speech, nuclei, n, costs, &mut figures[0..GAP]);
@@ -78,7 +80,8 @@ fn lay_costs(speech: &[u32], nuclei: &[u32], n: usize, costs: Costs, figures: &m
 // The filler costs of a stage with these boundaries. The nuclei are the record's, whatever the stage.
 pub fn lay_filler(mask: &[u8], nuclei: &[u32], bounds: &[u32], costs: Costs, figures: &mut [f64])
     requires { ⌜ Fit (now mask) (now bounds) × FitList mostAnchors (now nuclei) × (length (now figures) ≡ fillerLong) ⌝ }
-    ensures { λ _. ⌜ Fills costs (now (mask .entry)) (keptIn (now (mask .entry)) 0 (now (nuclei .entry))) (now (bounds .entry)) (tableAt startsAt (now (figures .exit))) (tableAt gapsAt (now (figures .exit))) (tableAt stopsAt (now (figures .exit))) ⌝ }
+    ensures { λ _. ⌜ Fills costs (now (mask .entry)) (keptIn (now (mask .entry)) 0 (now (nuclei .entry))) (now (bounds .entry))
+        (tableAt startsAt (now (figures .exit))) (tableAt gapsAt (now (figures .exit))) (tableAt stopsAt (now (figures .exit))) ⌝ }
 {
     let mut frames = [ABSENT; ANCHOR_ROOM];
     let mut rows = [0u32; ANCHOR_ROOM];

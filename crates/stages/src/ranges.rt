@@ -36,7 +36,8 @@ fn add_origin(words: &mut [u32], i: usize, j: usize, anchored: bool)
 // The tables of the lowest origins, of where those end whose units hold an anchor, and of where all end, into words that are 0; by the
 // frames of the first and the second kept anchor at or after each boundary.
 pub fn lay_ranges(bounds: &[u32], first: &[u32], second: &[u32], words: &mut [u32])
-    requires { ⌜ FitList mostBoundaries (now bounds) × (length (now bounds) ≤ length (now first)) × (length (now bounds) ≤ length (now second)) × (now words ≡ replicate originsLong 0) ⌝ }
+    requires { ⌜ FitList mostBoundaries (now bounds) × (length (now bounds) ≤ length (now first))
+        × (length (now bounds) ≤ length (now second)) × (now words ≡ replicate originsLong 0) ⌝ }
     ensures { λ _. ⌜ Ranged (now (bounds .entry)) (entryOf (now (first .entry))) (entryOf (now (second .entry))) (now (words .exit)) ⌝ }
 {
     let n = bounds.len();

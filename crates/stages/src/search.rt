@@ -18,7 +18,7 @@ ghost use mathlib.Core.Path.{_≡_};
 ghost use Prim.Native.Nat.{_+_, _<_, _≤_};
 ghost use lib.ListN.{length, take, replicate};
 ghost use Rattle.limits.specs.Capacity.{mostBoundaries};
-ghost use Rattle.laws.specs.Listed.{written};
+ghost use Rattle.laws.specs.inner.Tables.{written};
 ghost use Rattle.stages.specs.Lists.{lowsAt, middlesAt, highsAt, sinceStrictAt, wordsLong, originsLong, tableAt};
 ghost use Rattle.stages.specs.Parts.{FitList};
 ghost use Rattle.stages.specs.Ranges.{entryOf, Ranged, Ends};
@@ -40,7 +40,8 @@ fn pick(list: &[u32], places: &[u32], n: usize, out: &mut [u32])
 // and those before them.
 fn pick_before(list: &[u32], places: &[u32], n: usize, out: &mut [u32])
     requires { ⌜ Reaches (now places) n (length (now list) + 1) × (n ≤ length (now out)) ⌝ }
-    ensures { λ _. ⌜ now (out .exit) ≡ written (λ j. entryBefore (now (list .entry)) (entryOf (now (places .entry)) j)) n (now (out .entry)) ⌝ }
+    ensures { λ _. ⌜ now (out .exit)
+        ≡ written (λ j. entryBefore (now (list .entry)) (entryOf (now (places .entry)) j)) n (now (out .entry)) ⌝ }
 {
     let mut j = 0;
     while j < n {
@@ -63,8 +64,10 @@ fn copy(list: &[u32], out: &mut [u32])
 
 // The origins of the units that end at each boundary, from the place of each boundary among the kept anchors.
 fn lay_origins(frames: &[u32], places: &[u32], bounds: &[u32], words: &mut [u32])
-    requires { ⌜ Within (now frames) (now places) (length (now bounds)) × FitList mostBoundaries (now bounds) × (now words ≡ replicate originsLong 0) ⌝ }
-    ensures { λ _. ⌜ Ranged (now (bounds .entry)) (λ j. entryOf (now (frames .entry)) (entryOf (now (places .entry)) j)) (λ j. entryOf (now (frames .entry)) (entryOf (now (places .entry)) j + 1)) (now (words .exit)) ⌝ }
+    requires { ⌜ Within (now frames) (now places) (length (now bounds)) × FitList mostBoundaries (now bounds)
+        × (now words ≡ replicate originsLong 0) ⌝ }
+    ensures { λ _. ⌜ Ranged (now (bounds .entry)) (λ j. entryOf (now (frames .entry)) (entryOf (now (places .entry)) j))
+        (λ j. entryOf (now (frames .entry)) (entryOf (now (places .entry)) j + 1)) (now (words .exit)) ⌝ }
 {
     let n = bounds.len();
     let mut first = [0u32; MOST_BOUNDARIES];
@@ -76,8 +79,10 @@ fn lay_origins(frames: &[u32], places: &[u32], bounds: &[u32], words: &mut [u32]
 
 // What each count of units reaches, from the origins that are laid.
 fn lay_counts(n: usize, words: &mut [u32])
-    requires { ⌜ Ends (tableAt lowsAt (now words)) (tableAt middlesAt (now words)) n × Ends (tableAt lowsAt (now words)) (tableAt highsAt (now words)) n × (n ≤ mostBoundaries) × (length (now words) ≡ wordsLong) ⌝ }
-    ensures { λ _. ⌜ now (words .exit) ≡ take sinceStrictAt (now (words .entry)) ++ reachedBy (now (words .entry)) middlesAt n ++ reachedBy (now (words .entry)) highsAt n ⌝ }
+    requires { ⌜ Ends (tableAt lowsAt (now words)) (tableAt middlesAt (now words)) n
+        × Ends (tableAt lowsAt (now words)) (tableAt highsAt (now words)) n × (n ≤ mostBoundaries) × (length (now words) ≡ wordsLong) ⌝ }
+    ensures { λ _. ⌜ now (words .exit) ≡ take sinceStrictAt (now (words .entry)) ++ reachedBy (now (words .entry)) middlesAt n
+        ++ reachedBy (now (words .entry)) highsAt n ⌝ }
 {
     let mut since = [0u32; UNIT_COUNTS];
     lay_since(&words[LOW..MIDDLE], &words[MIDDLE..HIGH], n, &mut since);
@@ -89,7 +94,8 @@ fn lay_counts(n: usize, words: &mut [u32])
 // The boundaries; the origins of the units that end at each; the row of the last kept anchor before it; and what each count of units
 // reaches. From the place of each boundary among the kept anchors.
 pub fn lay_search(frames: &[u32], rows: &[u32], places: &[u32], bounds: &[u32], words: &mut [u32])
-    requires { ⌜ Within (now frames) (now places) (length (now bounds)) × Reaches (now places) (length (now bounds)) (length (now rows) + 1) × FitList mostBoundaries (now bounds) × (length (now words) ≡ wordsLong) ⌝ }
+    requires { ⌜ Within (now frames) (now places) (length (now bounds)) × Reaches (now places) (length (now bounds)) (length (now rows) + 1)
+        × FitList mostBoundaries (now bounds) × (length (now words) ≡ wordsLong) ⌝ }
     ensures { λ _. ⌜ Lays (now (frames .entry)) (now (rows .entry)) (now (places .entry)) (now (bounds .entry)) (now (words .exit)) ⌝ }
 {
     clear_words(words);

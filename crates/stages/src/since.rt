@@ -28,7 +28,8 @@ fn next_reached(low: &[u32], ends: &[u32], n: usize, from: usize) -> usize
 // By count of units, from none on.
 pub fn lay_since(low: &[u32], ends: &[u32], n: usize, since: &mut [u32])
     requires { ⌜ Ends (now low) (now ends) n × (n < 2 ^ 32) ⌝ }
-    ensures { λ _. ⌜ now (since .exit) ≡ listed (firstReached (entryOf (now (low .entry))) (entryOf (now (ends .entry))) n) (length (now (since .entry))) ⌝ }
+    ensures { λ _. ⌜ now (since .exit)
+        ≡ listed (firstReached (entryOf (now (low .entry))) (entryOf (now (ends .entry))) n) (length (now (since .entry))) ⌝ }
 {
     let mut reached: usize = 0;
     let mut s = 0;

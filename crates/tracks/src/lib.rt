@@ -96,7 +96,7 @@ pub fn bad_track(bytes: &[u8], at: Layout) -> bool
     bad_mask(bytes, at.mask)
         | bad_list(bytes, at.nuclei)
         | bad_list(bytes, at.boundaries)
-        | bad_list(bytes, at.anchors)
-        | bad_list(bytes, at.added)
+        | bad_list(bytes, at.added_anchors)
+        | bad_list(bytes, at.added_boundaries)
         | bad_speech(bytes, at.costs)
 }

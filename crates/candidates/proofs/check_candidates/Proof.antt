@@ -4,7 +4,8 @@ use mathlib.Core.Path.{_≡_, sym, ap, _∙_}
 use mathlib.Core.Option.{Option}
 use native.Mathlib.Omega.{arith}
 use Rattle.laws.specs.Rules.{firstOf}
-use Rattle.record.specs.Refusals.{answer, candidateRules}
+use Rattle.record.specs.Refusals.{candidateRules}
+use Rattle.record.specs.inner.Checks.{answer}
 use Rattle.record.specs.declared.refusal.Refusal.{Refusal}
 use Rattle.candidates.proofs.Rules.{rest, rest-all, rest-done, first-twice, first-units, first-column, first-later}
 use Rattle.candidates.proofs.check_candidates.Statement.{statement}

@@ -12,7 +12,8 @@ use Rattle.laws.proofs.Rules.{gives, leaves}
 use Rattle.record.specs.inner.Bounds.{CandidatesRead}
 use Rattle.record.specs.Layout.{layoutOf, limitsAt}
 use Rattle.record.specs.Conditions.{badTrack, badCost, bare}
-use Rattle.record.specs.Refusals.{answer, contentRules, candidateRules}
+use Rattle.record.specs.Refusals.{contentRules, candidateRules}
+use Rattle.record.specs.inner.Checks.{answer}
 use Rattle.limits.specs.declared.edition.Limits.{Limits}
 use Rattle.record.specs.declared.layout.Layout.{Layout}
 use Rattle.record.specs.declared.refusal.Refusal.{Refusal}

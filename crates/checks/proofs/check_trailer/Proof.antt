@@ -17,7 +17,8 @@ use Rattle.limits.proofs.Editions.{moderate}
 use Rattle.record.specs.Format.{trailerBytes, recordBytes}
 use Rattle.record.specs.Layout.{trailerStart, trailerOf, layoutFrom, layoutOf, limitsOf}
 use Rattle.record.specs.Conditions.{stub, otherEdition, oversized, overreaching}
-use Rattle.record.specs.Refusals.{answer, trailerRules}
+use Rattle.record.specs.Refusals.{trailerRules}
+use Rattle.record.specs.inner.Checks.{answer}
 use Rattle.limits.specs.declared.edition.Limits.{Limits}
 use Rattle.record.specs.declared.trailer.Trailer.{Trailer}
 use Rattle.record.specs.declared.refusal.Refusal.{Refusal}

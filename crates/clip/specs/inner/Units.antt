@@ -3,12 +3,18 @@
 use Prim.Native.Nat.{ℕ, zero, suc, _+_, _-_}
 use mathlib.Core.Path.{_≡_}
 use mathlib.Core.Bool.{cond}
-use mathlib.Core.List.{List, [], _∷_}
+use mathlib.Core.List.{List, [], _∷_, map}
 use lib.Dec.{eqb}
 use lib.ListN.{length, getD}
 use Rattle.limits.specs.Common.{absent}
 use Rattle.frames.specs.declared.span.Span.{Span}
-use Rattle.clip.specs.Clip.{Placed, anchored, unanchored, report, reported, startsOf, endsOf}
+use Rattle.clip.specs.Clip.{Placed, anchored, unanchored, report, reported}
+
+abbrev pub startsOf : List Span → List ℕ
+startsOf spans = map (λ span. span .start) spans
+
+abbrev pub endsOf : List Span → List ℕ
+endsOf spans = map (λ span. span .end) spans
 
 abbrev pub placedAt : List ℕ → List ℕ → List ℕ → ℕ → Placed
 placedAt starts ends rows i =

@@ -28,7 +28,8 @@ entryFrom head starts ends rows total = record {
   units = unitsFrom starts ends rows (head .units) 0;
 }
 
--- what is asked of an entry that is to be written in words with room for so many units: its units have room and stand in the three lists, and its llr is no NaN
+-- What is asked of an entry that is to be written in words with room for so many units: its units have room and stand in the three lists,
+-- and its llr is no NaN.
 pub record Writable (most : ℕ) (head : EntryHead) (starts ends rows : List ℕ) : Type 0 where
   pub room : most ≤ mostUnits
   pub few : head .units ≤ most

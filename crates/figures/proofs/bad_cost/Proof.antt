@@ -35,7 +35,7 @@ bad-table-requires c κs = search needs
 -- the costs but those of the second table, and what they leave
 abbrev First : List ℕ → Layout → Bool
 First bytes at =
-    badScores bytes (at .scores .start) ((at .nuclei .count + at .anchors .count) * at .scores .count)
+    badScores bytes (at .scores .start) ((at .nuclei .count + at .«added_anchors» .count) * at .scores .count)
     || badFigures bytes (at .costs)
     || badTable bytes (firstTable (at .costs))
 
@@ -43,14 +43,14 @@ bad-first : (bytes : List ℕ) (at : Layout) → First bytes at ≡ true → tru
 unfolding badCost
 bad-first bytes at e = or-found (First bytes at) _ e
 
-no-second : (bytes : List ℕ) (at : Layout) → First bytes at ≡ false → at .anchors .count ≡ 0 → false ≡ badCost bytes at
+no-second : (bytes : List ℕ) (at : Layout) → First bytes at ≡ false → at .«added_anchors» .count ≡ 0 → false ≡ badCost bytes at
 unfolding badCost
 no-second bytes at e none = ap (λ (n : ℕ). ltb 0 n && badTable bytes (secondTable (at .costs))) (sym none) ∙ or-rest (First bytes at) _ e
 
-second : (bytes : List ℕ) (at : Layout) → First bytes at ≡ false → 0 < at .anchors .count → badTable bytes (secondTable (at .costs)) ≡ badCost bytes at
+second : (bytes : List ℕ) (at : Layout) → First bytes at ≡ false → 0 < at .«added_anchors» .count → badTable bytes (secondTable (at .costs)) ≡ badCost bytes at
 unfolding badCost
 second bytes at e some =
-    ap (λ (b : Bool). b && badTable bytes (secondTable (at .costs))) (sym (lt-ltb 0 (at .anchors .count) some)) ∙ or-rest (First bytes at) _ e
+    ap (λ (b : Bool). b && badTable bytes (secondTable (at .costs))) (sym (lt-ltb 0 (at .«added_anchors» .count) some)) ∙ or-rest (First bytes at) _ e
 
 -- the result of the first test
 tested : (c : tie.After-bad-table) → (c .before .before .bad-scores .result || c .before .bad-figures .result || c .bad-table .result) ≡ First (now (c .before .before .before .before .before .before .args .bytes)) (c .before .before .before .before .before .before .args .at)
@@ -70,7 +70,7 @@ bad-table-requires-2 c κs = search needs
 
 returns-3 : tie.Need-returns-3
 returns-3 c =
-    let some : 0 < c .before .before .before .before .before .before .before .before .before .before .args .at .anchors .count = omega (arith, c .before .if2 .left) in
+    let some : 0 < c .before .before .before .before .before .before .before .before .before .before .args .at .«added_anchors» .count = omega (arith, c .before .if2 .left) in
     c .bad-table2 .ensures ∙ second _ _ (sym (tested (c .before .before .before .before)) ∙ c .before .before .before .if1 .left) some
 
 pub bad-cost-spec : {M : Type 1} → statement M

@@ -8,7 +8,8 @@ use native.Mathlib.Numerals.{add-one}
 use native.Mathlib.Omega.{arith}
 use Rattle.ieee.specs.Range.{within}
 use Rattle.record.specs.Below.{anyBelow}
-use Rattle.record.specs.Conditions.{million, f32At}
+use Rattle.limits.specs.Common.{million}
+use Rattle.record.specs.Conditions.{f32At}
 use Rattle.record.proofs.Below.{any-none}
 use Rattle.figures.proofs.bad_scores.Statement.{statement}
 use Rattle.figures.proofs.bad_scores.Tie as tie

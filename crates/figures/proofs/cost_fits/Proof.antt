@@ -3,7 +3,7 @@ use Prim.Native.Nat.{ℕ}
 use mathlib.Core.Path.{ap₂, _∙_}
 use lib.Ieee.{Float, binary64, ofBits}
 use Rattle.ieee.specs.Range.{within}
-use Rattle.record.proofs.Figures.{thousand-64}
+use Rattle.limits.proofs.Figures.{thousand-64}
 use borrow.Author.Needs.{needs}
 use Rattle.figures.proofs.cost_fits.Statement.{statement}
 use Rattle.figures.proofs.cost_fits.Tie as tie

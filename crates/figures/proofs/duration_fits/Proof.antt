@@ -4,7 +4,7 @@ use Prim.Native.Nat.{ℕ}
 use mathlib.Core.Path.{ap, ap₂, _∙_}
 use lib.Ieee.{Float, binary64, ofBits, neg}
 use Rattle.ieee.specs.Range.{between}
-use Rattle.record.proofs.Figures.{million-64, zero-64}
+use Rattle.limits.proofs.Figures.{million-64, zero-64}
 use borrow.Author.Needs.{needs}
 use Rattle.figures.proofs.duration_fits.Statement.{statement}
 use Rattle.figures.proofs.duration_fits.Tie as tie

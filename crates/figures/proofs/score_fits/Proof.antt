@@ -3,7 +3,7 @@ use Prim.Native.Nat.{ℕ}
 use mathlib.Core.Path.{ap₂, _∙_}
 use lib.Ieee.{Float, binary32, ofBits}
 use Rattle.ieee.specs.Range.{within}
-use Rattle.record.proofs.Figures.{million-32}
+use Rattle.limits.proofs.Figures.{million-32}
 use borrow.Author.Needs.{needs}
 use Rattle.figures.proofs.score_fits.Statement.{statement}
 use Rattle.figures.proofs.score_fits.Tie as tie

@@ -2,7 +2,7 @@
 use mathlib.Core.Path.{_≡_}
 use lib.Ieee.{Float, binary32}
 use Rattle.ieee.specs.inner.Value.{Within}
-use Rattle.ieee.specs.TotalOrder.{Comparable}
+use Rattle.ieee.specs.inner.Keys.{Comparable}
 use Rattle.ieee.specs.Convert.{narrowed, clampedLog}
 
 -- `narrow`, from x to r

@@ -1,6 +1,6 @@
--- When two phrases read alike for two candidates, each given by its score columns: in all that decoding reads of a phrase for one candidate. A
--- figure that it does not read may differ: another column's score, a duration of a length that no unit has, another candidate. Nor need a column
--- have the same number on both sides.
+-- When two phrases read alike for two candidates, each given by its score columns: in all that decoding reads of a phrase for one
+-- candidate. A figure that it does not read may differ: another column's score, a duration of a length that no unit has, another candidate.
+-- Nor need a column have the same number on both sides.
 use Prim.Native.Nat.{ℕ, _+_, _≤_, _<_}
 use mathlib.Core.Path.{_≡_}
 use mathlib.Core.List.{List}

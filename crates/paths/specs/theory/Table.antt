@@ -1,6 +1,6 @@
 -- Tables over a layered system: each state's cell joins what the ways into the state bring, in their order. A kind of table says what
--- a cell is; four kinds are given here. No contract of the base rests on this file. The best routes serve the proof that the cell rule keeps
--- a best path; the others wait for document 02: all routes and their number (`allRoutes`, `At`, `routeCount`, with `Once` and
+-- a cell is; four kinds are given here. No contract of the base rests on this file. The best routes serve the proof that the cell rule
+-- keeps a best path; the others wait for document 02: all routes and their number (`allRoutes`, `At`, `routeCount`, with `Once` and
 -- `each-once` of System.antt) for Ask 10, every path by number, and the notes (`bestNotes`, with `lastWay`) for Ask 12, whose search has
 -- a larger table.
 use Prim.Native.Nat.{ℕ, zero, suc, _+_}

@@ -8,7 +8,7 @@ use lib.Ieee.{binary32, binary64}
 use Rattle.ieee.specs.inner.Value.{Within}
 use Rattle.phrase.specs.Phrase.{Phrase, Stage, Candidate, spoken}
 use Rattle.record.specs.Layout.{layoutOf}
-use Rattle.limits.specs.Common.{lastFrame, shortestUnit, longestUnit}
+use Rattle.limits.specs.Common.{lastFrame, shortestUnit, longestUnit, largestFigure, largestCost}
 use Rattle.record.specs.Refusals.{refusalOf}
 use Rattle.limits.specs.declared.edition.Limits.{Limits}
 use Rattle.record.specs.declared.layout.Layout.{Layout}
@@ -46,12 +46,12 @@ pub record Fit (l : Limits) (columns : ℕ) (phrase : Phrase) : Type 0 where
   pub speech : (start end : ℕ) → phrase .speech ≡ spoken start end → (start ≤ end) × (end ≤ lastFrame)
   pub someColumn : 0 < columns
   pub fewColumns : columns ≤ l .columns
-  pub scores : (row column : ℕ) → row < length (phrase .nuclei .anchors) + length (phrase .added .anchors) → column < columns → Within binary32 (phrase .score row column) 1000000
-  pub perFrame : Within binary64 (phrase .costs .«per_frame») 1000
-  pub insertion : Within binary64 (phrase .costs .«insertion_llr») 1000
-  pub unvoiced : Within binary32 (phrase .costs .unvoiced) 1000000
-  pub durations : (frames : ℕ) → shortestUnit ≤ frames → frames ≤ longestUnit → Within binary64 (phrase .nuclei .duration frames) 1000000
-  pub addedDurations : 0 < length (phrase .added .anchors) → (frames : ℕ) → shortestUnit ≤ frames → frames ≤ longestUnit → Within binary64 (phrase .added .duration frames) 1000000
+  pub scores : (row column : ℕ) → row < length (phrase .nuclei .anchors) + length (phrase .added .anchors) → column < columns → Within binary32 (phrase .score row column) largestFigure
+  pub perFrame : Within binary64 (phrase .costs .«per_frame») largestCost
+  pub insertion : Within binary64 (phrase .costs .«insertion_llr») largestCost
+  pub unvoiced : Within binary32 (phrase .costs .unvoiced) largestFigure
+  pub durations : (frames : ℕ) → shortestUnit ≤ frames → frames ≤ longestUnit → Within binary64 (phrase .nuclei .duration frames) largestFigure
+  pub addedDurations : 0 < length (phrase .added .anchors) → (frames : ℕ) → shortestUnit ≤ frames → frames ≤ longestUnit → Within binary64 (phrase .added .duration frames) largestFigure
   pub someCandidate : 0 < length (phrase .candidates)
   pub fewCandidates : length (phrase .candidates) ≤ l .candidates
   pub candidates : (i : ℕ) (other : Candidate) → i < length (phrase .candidates) → CandidateFit (l .units) columns (getD (phrase .candidates) i other)

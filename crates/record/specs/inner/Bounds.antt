@@ -12,24 +12,24 @@ pub record Sized (l : Limits) (t : Trailer) : Type 0 where
   pub frames : t .mask .count ≤ l .frames
   pub nuclei : t .nuclei .count ≤ l .nuclei
   pub boundaries : t .boundaries .count ≤ l .boundaries
-  pub anchors : t .anchors .count ≤ l .anchors
-  pub added : t .added .count ≤ l .boundaries
+  pub addedAnchors : t .«added_anchors» .count ≤ l .anchors
+  pub addedBoundaries : t .«added_boundaries» .count ≤ l .boundaries
   pub columns : t .scores .count ≤ l .columns
   pub candidates : t .candidates .count ≤ l .candidates
   pub someColumn : 0 < t .scores .count
-  pub nothingAdded : t .anchors .count ≡ 0 → t .added .count ≡ 0
+  pub nothingAdded : t .«added_anchors» .count ≡ 0 → t .«added_boundaries» .count ≡ 0
 
 -- the same of a layout, whose counts are the trailer's
 pub record Counted (l : Limits) (at : Layout) : Type 0 where
   pub frames : at .mask .count ≤ l .frames
   pub nuclei : at .nuclei .count ≤ l .nuclei
   pub boundaries : at .boundaries .count ≤ l .boundaries
-  pub anchors : at .anchors .count ≤ l .anchors
-  pub added : at .added .count ≤ l .boundaries
+  pub addedAnchors : at .«added_anchors» .count ≤ l .anchors
+  pub addedBoundaries : at .«added_boundaries» .count ≤ l .boundaries
   pub columns : at .scores .count ≤ l .columns
   pub candidates : at .candidates .count ≤ l .candidates
   pub someColumn : 0 < at .scores .count
-  pub nothingAdded : at .anchors .count ≡ 0 → at .added .count ≡ 0
+  pub nothingAdded : at .«added_anchors» .count ≡ 0 → at .«added_boundaries» .count ≡ 0
 
 -- a section of so many bytes lies between the record's start and the trailer's
 pub record Reaches (end bytes back : ℕ) : Type 0 where
@@ -40,9 +40,9 @@ pub record Reaching (l : Limits) (end : ℕ) (t : Trailer) : Type 0 where
   pub mask : Reaches end (t .mask .count) (t .mask .back)
   pub nuclei : Reaches end (listBytes (t .nuclei .count)) (t .nuclei .back)
   pub boundaries : Reaches end (listBytes (t .boundaries .count)) (t .boundaries .back)
-  pub anchors : Reaches end (listBytes (t .anchors .count)) (t .anchors .back)
-  pub added : Reaches end (listBytes (t .added .count)) (t .added .back)
-  pub scores : Reaches end (scoreBytes (t .nuclei .count) (t .anchors .count) (t .scores .count)) (t .scores .back)
+  pub addedAnchors : Reaches end (listBytes (t .«added_anchors» .count)) (t .«added_anchors» .back)
+  pub addedBoundaries : Reaches end (listBytes (t .«added_boundaries» .count)) (t .«added_boundaries» .back)
+  pub scores : Reaches end (scoreBytes (t .nuclei .count) (t .«added_anchors» .count) (t .scores .count)) (t .scores .back)
   pub candidates : Reaches end (candidateBytes l * t .candidates .count) (t .candidates .back)
   pub costs : Reaches end costsBytes (t .costs)
 
@@ -51,8 +51,8 @@ pub record Inside (end : ℕ) (t : Trailer) : Type 0 where
   pub mask : t .mask .back ≤ end
   pub nuclei : t .nuclei .back ≤ end
   pub boundaries : t .boundaries .back ≤ end
-  pub anchors : t .anchors .back ≤ end
-  pub added : t .added .back ≤ end
+  pub addedAnchors : t .«added_anchors» .back ≤ end
+  pub addedBoundaries : t .«added_boundaries» .back ≤ end
   pub scores : t .scores .back ≤ end
   pub candidates : t .candidates .back ≤ end
   pub costs : t .costs ≤ end
@@ -62,9 +62,9 @@ pub record Within (end : ℕ) (at : Layout) : Type 0 where
   pub mask : at .mask .start + at .mask .count ≤ end
   pub nuclei : at .nuclei .start + listBytes (at .nuclei .count) ≤ end
   pub boundaries : at .boundaries .start + listBytes (at .boundaries .count) ≤ end
-  pub anchors : at .anchors .start + listBytes (at .anchors .count) ≤ end
-  pub added : at .added .start + listBytes (at .added .count) ≤ end
-  pub scores : at .scores .start + scoreBytes (at .nuclei .count) (at .anchors .count) (at .scores .count) ≤ end
+  pub addedAnchors : at .«added_anchors» .start + listBytes (at .«added_anchors» .count) ≤ end
+  pub addedBoundaries : at .«added_boundaries» .start + listBytes (at .«added_boundaries» .count) ≤ end
+  pub scores : at .scores .start + scoreBytes (at .nuclei .count) (at .«added_anchors» .count) (at .scores .count) ≤ end
   pub costs : at .costs + costsBytes ≤ end
 
 -- What the readers of candidates ask: their section, whose entries have the edition's size, does too.

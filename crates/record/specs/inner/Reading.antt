@@ -23,11 +23,11 @@ stageOf Count phrase = phrase .added
 -- where its two lists stand, and its duration table
 abbrev pub anchorSection : Which → Layout → Section
 anchorSection Nuclei at = at .nuclei
-anchorSection Count at = at .anchors
+anchorSection Count at = at .«added_anchors»
 
 abbrev pub boundarySection : Which → Layout → Section
 boundarySection Nuclei at = at .boundaries
-boundarySection Count at = at .added
+boundarySection Count at = at .«added_boundaries»
 
 abbrev pub tableStart : Which → Layout → ℕ
 tableStart Nuclei at = firstTable (at .costs)

@@ -14,10 +14,10 @@ bad-list-requires-2 : tie.Need-bad-list-requires-2
 bad-list-requires-2 c κs = c .before .before .before .pre .boundaries
 
 bad-list-requires-3 : tie.Need-bad-list-requires-3
-bad-list-requires-3 c κs = c .before .before .before .before .pre .anchors
+bad-list-requires-3 c κs = c .before .before .before .before .pre .addedAnchors
 
 bad-list-requires-4 : tie.Need-bad-list-requires-4
-bad-list-requires-4 c κs = c .before .before .before .before .before .pre .added
+bad-list-requires-4 c κs = c .before .before .before .before .before .pre .addedBoundaries
 
 bad-speech-requires : tie.Need-bad-speech-requires
 bad-speech-requires c κs = c .before .before .before .before .before .before .pre .costs

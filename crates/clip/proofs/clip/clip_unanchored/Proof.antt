@@ -4,8 +4,8 @@ use mathlib.Core.Path.{_≡_, refl, sym, ap, _∙_}
 use mathlib.Core.List.{_++_}
 use native.Mathlib.Omega.{arith}
 use lib.ListN.{length, take, length-set}
-use Rattle.clip.specs.Clip.{startsOf, endsOf, reportAfter}
-use Rattle.clip.specs.inner.Units.{placedRange, Alike}
+use Rattle.clip.specs.Clip.{reportAfter}
+use Rattle.clip.specs.inner.Units.{startsOf, endsOf, placedRange, Alike}
 use Rattle.clip.proofs.Reports.{figure-step, figure-end, reported-from, reported-none}
 use Rattle.clip.proofs.clip.clip_unanchored.Statement.{statement}
 use Rattle.clip.proofs.clip.clip_unanchored.Tie as tie

@@ -1,16 +1,15 @@
 -- `closed::best_path::best_path` meets its contract. Assumes nothing.
 use mathlib.Core.List.{[], _++_}
 use mathlib.Core.Path.{_≡_, refl, sym, ap, subst, subst⁻¹, _∙_}
-use Prim.Native.Nat.{ℕ, suc, _+_, _*_, _≤_, _<_}
+use Prim.Native.Nat.{ℕ, suc, _+_, _*_, _<_}
 use native.Mathlib.Omega.{arith}
 use lib.Ieee.{binary64, nan, ofBits}
-use lib.ListN.{length, getD, drop, replicate}
+use lib.ListN.{getD, drop, replicate}
 use borrow.Author.Needs.{needs}
 use Rattle.record.proofs.Reading.{few-units as candidate-units}
 use Rattle.paths.specs.Problem.{Problem}
 use Rattle.limits.specs.Capacity.{unitCounts}
 use Rattle.stages.specs.Tables.{sinceIn}
-use Rattle.rows.specs.Units.{ReachedFrom}
 use Rattle.rows.proofs.Lists.{reached-at}
 use Rattle.closed.specs.declared.path.Found.the-variants.{NoPath}
 use Rattle.closed.specs.Reported.{AllRows, LastReached, Reports}
@@ -23,7 +22,8 @@ use Rattle.closed.proofs.best_path.best_path.Statement.{statement}
 use Rattle.closed.proofs.best_path.best_path.Tie as tie
 
 abbrev asked : tie.Start → Asked
-asked c = askedOf (c .args .bytes .now) (c .args .candidate) (c .args .strictness) (c .args .n) (c .args .words .now) (c .args .figures .now)
+asked c =
+    askedOf (c .args .bytes .now) (c .args .candidate) (c .args .strictness) (c .args .n) (c .args .words .now) (c .args .figures .now)
 
 -- the function's entry, from where the last row's first boundary is known
 abbrev entry : tie.After-first-reached → tie.Start
@@ -44,13 +44,16 @@ used : (c : tie.After-first-reached) → suc (count c) * entry c .args .n ≡ ce
 used c = ap (λ (k : ℕ). suc k * entry c .args .n) (c .before .units .ensures)
 
 -- where the last row is reached first, as the table has it
-first-there : (c : tie.After-first-reached) → c .first-reached .result ≡ getD (sinceIn (asked (entry c) .tables) (entry c .args .strictness)) (count c) 0
+first-there : (c : tie.After-first-reached)
+    → c .first-reached .result ≡ getD (sinceIn (asked (entry c) .tables) (entry c .args .strictness)) (count c) 0
 first-there c =
     let a = entry c .args in
     c .first-reached .ensures ∙ sym (reached-at (a .n) (a .words .now) (a .figures .now) (a .strictness) (count c) (few-units (c .before)))
 
-last-reached : (c : tie.After-first-reached) (q : Problem) → Agrees (asked (entry c)) q → LastReached q (entry c .args .n) (count c) (c .first-reached .result)
-last-reached c q agrees = reaches (asked (entry c)) (entry c .pre .readable) q agrees (count c) (few-units (c .before)) (c .first-reached .result) (first-there c)
+last-reached : (c : tie.After-first-reached) (q : Problem) → Agrees (asked (entry c)) q
+    → LastReached q (entry c .args .n) (count c) (c .first-reached .result)
+last-reached c q agrees =
+    reaches (asked (entry c)) (entry c .pre .readable) q agrees (count c) (few-units (c .before)) (c .first-reached .result) (first-there c)
 
 units-requires : tie.Need-units-requires
 units-requires c κs = search needs
@@ -67,7 +70,8 @@ returns c =
     let start = entry here in (
       (λ q agrees. subst (λ (k : ℕ). Reports q k (record { found = NoPath; units = c .no-units .result })) (here .before .units .ensures)
           (reports-none (c .no-units .result)
-          (none-there (asked start) (start .pre .readable) q agrees (count here) (few-units (here .before)) (omega (arith, first-there here, c .before .if1 .taken)))
+          (none-there (asked start) (start .pre .readable) q agrees (count here) (few-units (here .before))
+          (omega (arith, first-there here, c .before .if1 .taken)))
           (c .no-units .ensures))),
       (refl, refl),
     )
@@ -106,7 +110,8 @@ finish-requires c κs =
       (
         some .0,
         some .1 .stops,
-        subst⁻¹ (AllRows (some .0) (filled .last .0) (filled .last .1 .0) (a .n)) (here .before .units .ensures) (filled .ensures .rows (some .0) (some .1)),
+        subst⁻¹ (AllRows (some .0) (filled .last .0) (filled .last .1 .0) (a .n)) (here .before .units .ensures)
+            (filled .ensures .rows (some .0) (some .1)),
         last-reached here (some .0) (some .1),
       ),
     )
@@ -119,7 +124,8 @@ same-length-2 c = search needs
 
 returns-2 : tie.Need-returns-2
 returns-2 c =
-    let here = c .before .before .before .before .before .before .before .before .before .before .before .before .before .before .before .before in
+    let here =
+    c .before .before .before .before .before .before .before .before .before .before .before .before .before .before .before .before in
     let start = entry here in
     let a = start .args in
     let unused = start .pre .unused in
@@ -128,7 +134,9 @@ returns-2 c =
     let counted = here .before .units .ensures in
     let cells = used here in (
       (λ q agrees. subst (λ (k : ℕ). Reports q k (done .result)) counted
-          (done .ensures .0 q (agrees .stops) (subst⁻¹ (AllRows q (filled .last .0) (filled .last .1 .0) (a .n)) counted (filled .ensures .rows q agrees)) (last-reached here q agrees))),
+          (done .ensures .0 q (agrees .stops)
+          (subst⁻¹ (AllRows q (filled .last .0) (filled .last .1 .0) (a .n)) counted (filled .ensures .rows q agrees))
+          (last-reached here q agrees))),
       (
         done .ensures .1 .0 ∙ ap (λ (m : ℕ). replicate m (ofBits binary64 0) ++ drop m (filled .last .0)) cells
             ∙ restored (cellsFor (asked start)) (a .best .now) (filled .last .0) (ofBits binary64 0) nan (unused .values) (filled .kept .0)

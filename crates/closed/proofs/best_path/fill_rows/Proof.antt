@@ -1,14 +1,13 @@
 -- `closed::best_path::fill_rows` meets its contract: proofs/AllRows.antt has the rows. Assumes nothing.
 use mathlib.Core.List.{[]}
 use mathlib.Core.Path.{_≡_, sym, ap, subst, subst⁻¹, _∙_}
-use Prim.Native.Nat.{ℕ, _+_, _-_, _*_, _<_}
+use Prim.Native.Nat.{ℕ, _+_, _-_, _<_}
 use native.Mathlib.Omega.{arith}
 use lib.ListN.{length, getD}
-use borrow.Author.Needs.{needs}
 use Rattle.phrase.specs.declared.costs.Costs.{Costs}
 use Rattle.record.proofs.Accepted.{fit}
 use Rattle.record.proofs.Reading.{few-units as candidate-units, within-real}
-use Rattle.limits.specs.Capacity.{mostBoundaries, unitCounts}
+use Rattle.limits.specs.Capacity.{unitCounts}
 use Rattle.stages.specs.Lists.{rowsAt}
 use Rattle.record.specs.Meaning.{phraseOf}
 use Rattle.rows.specs.Reads.{reachedBy, scoreRead, scoreRows, Scorable}
@@ -24,13 +23,15 @@ use Rattle.closed.proofs.best_path.fill_rows.Statement.{statement}
 use Rattle.closed.proofs.best_path.fill_rows.Tie as tie
 
 abbrev Inv-loop : tie.InvT-loop
-Inv-loop best₀ back₀ bytes at costs words figures n strictness candidate k s₀ best back s = RowsTo (askedOf bytes candidate strictness n words figures) best₀ back₀ best back s
+Inv-loop best₀ back₀ bytes at costs words figures n strictness candidate k s₀ best back s =
+    RowsTo (askedOf bytes candidate strictness n words figures) best₀ back₀ best back s
 
 abbrev μ-loop : tie.MeasureT-loop
 μ-loop best₀ back₀ bytes at costs words figures n strictness candidate k s₀ best back s = k - s
 
 abbrev asked : tie.Start Inv-loop μ-loop → Asked
-asked c = askedOf (c .args .bytes .now) (c .args .candidate) (c .args .strictness) (c .args .n) (c .args .words .now) (c .args .figures .now)
+asked c =
+    askedOf (c .args .bytes .now) (c .args .candidate) (c .args .strictness) (c .args .n) (c .args .words .now) (c .args .figures .now)
 
 -- from the loop: where the row of no units is filled, and the function's entry
 abbrev starting : tie.At-loop Inv-loop μ-loop → tie.After-fill-starts Inv-loop μ-loop
@@ -65,8 +66,11 @@ scorable c =
     record {
       laid = given .laid;
       numbered = subst⁻¹ (λ (x : ℕ). x < a .at .scores .count) (c .column .ensures)
-          (fit (given .laid) .candidates (a .candidate) (record { id = 0; columns = [] }) (given .listed) .below (c .before .before .loop .s) (turning (c .before)));
-      rows = λ j h. subst (λ (x : ℕ). x < scoreRows (phraseOf (a .bytes .now))) (table-at rowsAt (a .words .now) j 0 (omega (arith, readable .few))) (readable .rows j h);
+          (fit (given .laid) .candidates (a .candidate) (record { id = 0; columns = [] }) (given .listed) .below
+          (c .before .before .loop .s) (turning (c .before)));
+      rows =
+          λ j h. subst (λ (x : ℕ). x < scoreRows (phraseOf (a .bytes .now)))
+          (table-at rowsAt (a .words .now) j 0 (omega (arith, readable .few))) (readable .rows j h);
     }
 
 fill-starts-requires : tie.Need-fill-starts-requires Inv-loop μ-loop
@@ -142,11 +146,15 @@ loop-again c =
     let few = few-units start in
     let unit = read .column in
     let next = filled .fill-next in
-    rows-more (asked start) (at .loop .inv) turn (next .kept .0) (next .kept .1 .0) (scoreRead (a .bytes .now) (a .words .now) (unit .result))
-    (λ j h. ap (λ (row : ℕ). asked start .phrase .score row (unit .result)) (sym (table-at rowsAt (a .words .now) j 0 (omega (arith, start .pre .0 .readable .few))))
+    rows-more (asked start) (at .loop .inv) turn (next .kept .0) (next .kept .1 .0)
+    (scoreRead (a .bytes .now) (a .words .now) (unit .result))
+    (λ j h. ap (λ (row : ℕ). asked start .phrase .score row (unit .result))
+    (sym (table-at rowsAt (a .words .now) j 0 (omega (arith, start .pre .0 .readable .few))))
     ∙ ap (asked start .phrase .score (getD (t .row) j 0)) (unit .ensures))
     (reachedBy (a .words .now) (a .strictness) (at .loop .s))
-    (subst (λ (x : Costs). FilledNext (rowWith t (scoreRead (a .bytes .now) (a .words .now) (unit .result)) x (a .strictness)) (at .loop .best) (at .loop .back) (next .last .0) (next .last .1 .0) (t .size) (at .loop .s) (reachedBy (a .words .now) (a .strictness) (at .loop .s)))
+    (subst (λ (x : Costs). FilledNext (rowWith t (scoreRead (a .bytes .now) (a .words .now) (unit .result)) x (a .strictness))
+    (at .loop .best) (at .loop .back) (next .last .0) (next .last .1 .0) (t .size) (at .loop .s)
+    (reachedBy (a .words .now) (a .strictness) (at .loop .s)))
     (start .pre .0 .given .figures) (next .ensures))
     (λ q agrees. reaches (asked start) (start .pre .0 .readable) q agrees (at .loop .s) (omega arith) _
     (sym (reached-at (a .n) (a .words .now) (a .figures .now) (a .strictness) (at .loop .s) (omega arith))))
@@ -166,7 +174,9 @@ returns c =
     let all : c .before .loop .s ≡ length (asked start .columns) = omega (arith, c .loop-test .left, start .pre .1, inv .bounded) in
     record {
       rows = λ q agrees. subst (AllRows q (c .before .loop .best) (c .before .loop .back) (start .args .n)) all (inv .filled q agrees);
-      rest = λ at h. same-trans (first-rest (asked start) (starting (c .before) .fill-starts .ensures) (some .0) (some .1) at h) (inv .rest at h);
+      rest =
+          λ at h. same-trans (first-rest (asked start) (starting (c .before) .fill-starts .ensures) (some .0) (some .1) at h)
+          (inv .rest at h);
     }
 
 pub fill-rows-spec : {M : Type 1} → statement M

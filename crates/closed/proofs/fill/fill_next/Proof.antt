@@ -74,8 +74,10 @@ returns c =
     let p = start .pre in
     let filled = c .before .before .before .before .fill-row in
     rw (← c .before .before .before .before .before .before .before .before .first-reached .ensures)
-    (next-row (a .best .now) (a .back .now) (a .n) (a .s) (p .0 .0) (p .0 .1) (rowTables (a .n) (a .words .now) (a .figures .now) (scoreRead (a .bytes .now) (a .words .now) (a .column)) (a .costs) (a .strictness))
-    (c .before .before .before .before .before .before .before .before .first-reached .result) (filled .last .0) (filled .last .1 .0) (filled .ensures))
+    (next-row (a .best .now) (a .back .now) (a .n) (a .s) (p .0 .0) (p .0 .1)
+    (rowTables (a .n) (a .words .now) (a .figures .now) (scoreRead (a .bytes .now) (a .words .now) (a .column)) (a .costs) (a .strictness))
+    (c .before .before .before .before .before .before .before .before .first-reached .result) (filled .last .0) (filled .last .1 .0)
+    (filled .ensures))
 
 pub fill-next-spec : {M : Type 1} → statement M
 fill-next-spec =

@@ -39,7 +39,9 @@ trace-requires c κs =
     let p = start .pre .0 in
     let some = start .pre .1 in
     let end = c .before .best-end in
-    let led = traced (some .0) (a .k) (a .n) (a .stop .now) (a .best .now) (a .back .now) (some .1) (some .2) (a .since) (some .3) (end .result) (end .ensures (some .0) (some .1)) in
+    let led =
+    traced (some .0) (a .k) (a .n) (a .stop .now) (a .best .now) (a .back .now) (some .1) (some .2) (a .since) (some .3) (end .result)
+    (end .ensures (some .0) (some .1)) in
     ((p .0, p .1, p .3, led .0), led .1)
 
 add-clear : tie.Need-add-clear
@@ -62,7 +64,8 @@ returns c =
     let units = c .before .before .before .before .before .before .before .trace in
     let cleared = c .before .before .before .before .clear .ensures in
     let is : a .k * a .n + a .n ≡ suc (a .k) * a .n = omega arith in (
-      (λ q stops all reach. reports-chosen q (a .k) (a .n) (a .stop .now) (a .best .now) (a .back .now) stops all (a .since) reach (end .result) (end .ensures q stops)
+      (λ q stops all reach. reports-chosen q (a .k) (a .n) (a .stop .now) (a .best .now) (a .back .now) stops all (a .since) reach
+          (end .result) (end .ensures q stops)
           (units .result) (units .ensures)),
       (
         cleared .0 ∙ ap (λ (m : ℕ). replicate m (ofBits binary64 0) ++ drop m (a .best .now)) is,

@@ -10,7 +10,7 @@ use Rattle.record.specs.Meaning.{phraseOf}
 use Rattle.closed.specs.declared.search.Answer.{Answer}
 use Rattle.closed.specs.Asked.{columnsOf, Asked, askedOf, Agrees}
 use Rattle.closed.specs.Answered.{Says, passAnswer}
-use Rattle.closed.proofs.Staged.{pass-agrees, pass-ready}
+use Rattle.closed.proofs.Staged.{pass-agrees, pass-inputs}
 use Rattle.closed.proofs.Answers.{says-path}
 use borrow.Author.Needs.{needs}
 use Rattle.closed.proofs.search.attempt.Statement.{statement}
@@ -29,12 +29,14 @@ problem c = passProblem (phrase c) (c .args .pass) (columns c)
 abbrev asked : tie.After-boundary-count → Asked
 asked c =
     let a = c .before .before .before .before .before .before .before .before .args in
-    askedOf (a .bytes .now) (a .task .candidate) (c .before .before .strictness-of .result) (c .boundary-count .result) (a .words .now) (a .figures .now)
+    askedOf (a .bytes .now) (a .task .candidate) (c .before .before .strictness-of .result) (c .boundary-count .result) (a .words .now)
+    (a .figures .now)
 
 agreed : (c : tie.After-boundary-count) → Agrees (asked c) (problem (c .before .before .before .before .before .before .before .before))
 agreed c =
     let start = c .before .before .before .before .before .before .before .before in
-    pass-agrees (start .pre .0 .0) (start .args .pass) (start .pre .1 .0) (c .before .before .strictness-of .ensures) (c .boundary-count .ensures)
+    pass-agrees (start .pre .0 .0) (start .args .pass) (start .pre .1 .0) (c .before .before .strictness-of .ensures)
+    (c .boundary-count .ensures)
 
 strictness-of-requires : tie.Need-strictness-of-requires
 strictness-of-requires c κs = search needs
@@ -45,7 +47,9 @@ boundary-count-requires c κs = search needs
 best-path-requires : tie.Need-best-path-requires
 best-path-requires c κs =
     let start = c .before .before .before .before .before .before .before .before .before .before .before in
-    pass-ready (start .pre .0 .0) (start .args .pass) (start .pre .1 .0) (c .before .before .before .before .before .strictness-of .ensures) (c .before .before .before .boundary-count .ensures) (start .pre .0 .1) (start .pre .1 .1)
+    pass-inputs (start .pre .0 .0) (start .args .pass) (start .pre .1 .0)
+    (c .before .before .before .before .before .strictness-of .ensures) (c .before .before .before .boundary-count .ensures)
+    (start .pre .0 .1) (start .pre .1 .1)
 
 answer-in-requires : tie.Need-answer-in-requires
 answer-in-requires c κs = search needs
@@ -58,10 +62,13 @@ same-length-2 c = search needs
 
 returns : tie.Need-returns
 returns c =
-    let start = c .before .before .before .before .before .before .before .before .before .before .before .before .before .before .before .before .before .before in
+    let start =
+    c .before .before .before .before .before .before .before .before .before .before .before .before .before .before .before .before .before .before in
     let path = c .before .before .before .before .before .before .best-path in (
-      subst⁻¹ (λ (answer : Answer). Says (passAnswer (phrase start) (start .args .pass) (columns start)) (record { answer = answer; units = path .result .units })) (c .before .answer-in .ensures)
-          (says-path (start .args .pass) (problem start) (length (columns start)) (path .result) (path .ensures .0 (problem start) (agreed (c .before .before .before .before .before .before .before .before .before .before)))),
+      subst⁻¹ (λ (answer : Answer). Says (passAnswer (phrase start) (start .args .pass) (columns start))
+          (record { answer = answer; units = path .result .units })) (c .before .answer-in .ensures)
+          (says-path (start .args .pass) (problem start) (length (columns start)) (path .result)
+          (path .ensures .0 (problem start) (agreed (c .before .before .before .before .before .before .before .before .before .before)))),
       path .ensures .1,
     )
 

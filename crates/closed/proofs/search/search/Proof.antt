@@ -59,7 +59,9 @@ no-path-requires c κs = search needs
 returns : tie.Need-returns
 returns c =
     let start = c .before .before .before .before .before .before .before .before .before .before in (
-      says-unvoiced (phrase start) (columns start) (sym (start .pre .0 .1 .voiced) ∙ not-true (start .args .runs .voiced) (c .before .if1 .taken)) (c .no-path .result) (c .no-path .ensures),
+      says-unvoiced (phrase start) (columns start)
+          (sym (start .pre .0 .1 .voiced) ∙ not-true (start .args .runs .voiced) (c .before .if1 .taken)) (c .no-path .result)
+          (c .no-path .ensures),
       (refl, refl),
     )
 
@@ -70,7 +72,8 @@ returns-2 : tie.Need-returns-2
 returns-2 c =
     let heard = c .before .before .before in
     let start = entry heard in (
-      says-silent (phrase start) (columns start) (voiced heard) (sym (start .pre .0 .1 .spoken) ∙ not-true (start .args .runs .spoken) (c .before .if2 .taken))
+      says-silent (phrase start) (columns start) (voiced heard)
+          (sym (start .pre .0 .1 .spoken) ∙ not-true (start .args .runs .spoken) (c .before .if2 .taken))
           (c .no-path2 .result) (c .no-path2 .ensures),
       (refl, refl),
     )
@@ -96,7 +99,8 @@ returns-3 c =
     let start = start-of found in
     let speech = speaking (first found) in
     let strict = first found .attempt in (
-      says-strict (phrase start) (columns start) (voiced (voicing speech)) (spoken speech) (strict .result) (strict .ensures .0) (sym (found .is-found .ensures) ∙ c .if3 .taken),
+      says-strict (phrase start) (columns start) (voiced (voicing speech)) (spoken speech) (strict .result) (strict .ensures .0)
+          (sym (found .is-found .ensures) ∙ c .if3 .taken),
       strict .ensures .1,
     )
 
@@ -104,8 +108,10 @@ attempt-requires-2 : tie.Need-attempt-requires-2
 attempt-requires-2 c κs =
     let found = c .before .before .before .before .before in
     let start = start-of found in
-    let kept = first found .attempt .ensures .1 in
-    ((start .pre .0 .0, voiced (voicing (speaking (first found)))), (start .pre .1 .0 .nuclei, still (kept .0) (kept .1) (start .pre .1 .1)))
+    let kept = first found .attempt .ensures .1 in (
+      (start .pre .0 .0, voiced (voicing (speaking (first found)))),
+      (start .pre .1 .0 .nuclei, still (kept .0) (kept .1) (start .pre .1 .1)),
+    )
 
 same-length-3 : tie.Need-same-length-3
 same-length-3 c = search needs
@@ -122,7 +128,8 @@ returns-4 c =
     let speech = speaking (first found) in
     let strict = first found .attempt in
     let last = c .before .before .before .before .attempt2 in (
-      says-relaxed (phrase start) (columns start) (voiced (voicing speech)) (spoken speech) (strict .result) (strict .ensures .0) (sym (found .is-found .ensures) ∙ failed .if3 .left)
+      says-relaxed (phrase start) (columns start) (voiced (voicing speech)) (spoken speech) (strict .result) (strict .ensures .0)
+          (sym (found .is-found .ensures) ∙ failed .if3 .left)
           (sym (start .pre .0 .1 .added) ∙ not-true (start .args .runs .added) (branch .if4 .taken)) (last .result) (last .ensures .0),
       (last .ensures .1 .0 ∙ strict .ensures .1 .0, last .ensures .1 .1 ∙ strict .ensures .1 .1),
     )
@@ -132,8 +139,10 @@ search-added-requires c κs =
     let branch = c .before .before in
     let found = adding branch .before in
     let start = start-of found in
-    let kept = first found .attempt .ensures .1 in
-    ((start .pre .0 .0, voiced (voicing (speaking (first found)))), (start .pre .1 .0 .added (added branch), still (kept .0) (kept .1) (start .pre .1 .1)))
+    let kept = first found .attempt .ensures .1 in (
+      (start .pre .0 .0, voiced (voicing (speaking (first found)))),
+      (start .pre .1 .0 .added (added branch), still (kept .0) (kept .1) (start .pre .1 .1)),
+    )
 
 same-length-5 : tie.Need-same-length-5
 same-length-5 c = search needs
@@ -150,7 +159,8 @@ returns-5 c =
     let speech = speaking (first found) in
     let strict = first found .attempt in
     let last = c .before .before .before .before .search-added in (
-      says-added (phrase start) (columns start) (voiced (voicing speech)) (spoken speech) (strict .result) (strict .ensures .0) (sym (found .is-found .ensures) ∙ failed .if3 .left)
+      says-added (phrase start) (columns start) (voiced (voicing speech)) (spoken speech) (strict .result) (strict .ensures .0)
+          (sym (found .is-found .ensures) ∙ failed .if3 .left)
           (added branch) (last .result) (last .ensures .0),
       (last .ensures .1 .0 ∙ strict .ensures .1 .0, last .ensures .1 .1 ∙ strict .ensures .1 .1),
     )

@@ -32,12 +32,15 @@ same-length-2 c = search needs
 returns : tie.Need-returns
 returns c =
     let start = c .before .before .before .before .before .before .before .before .before .before .before .before .before .before in
-    let strict = c .before .before .before .before .before .before .attempt in
-    (says-count (phrase start) (columns start) (strict .result) (strict .ensures .0) (sym (c .before .is-found .ensures) ∙ c .if1 .taken), strict .ensures .1)
+    let strict = c .before .before .before .before .before .before .attempt in (
+      says-count (phrase start) (columns start) (strict .result) (strict .ensures .0) (sym (c .before .is-found .ensures) ∙ c .if1 .taken),
+      strict .ensures .1,
+    )
 
 attempt-requires-2 : tie.Need-attempt-requires-2
 attempt-requires-2 c κs =
-    let pre = c .before .before .before .before .before .before .before .before .before .before .before .before .before .before .before .before .pre in
+    let pre =
+    c .before .before .before .before .before .before .before .before .before .before .before .before .before .before .before .before .pre in
     let strict = c .before .before .before .before .before .before .before .before .attempt .ensures .1 in
     (pre .0, (pre .1 .0, still (strict .0) (strict .1) (pre .1 .1)))
 
@@ -49,10 +52,13 @@ same-length-4 c = search needs
 
 returns-2 : tie.Need-returns-2
 returns-2 c =
-    let start = c .before .before .before .before .before .before .before .before .before .before .before .before .before .before .before .before .before .before .before .before .before in
+    let start =
+    c .before .before .before .before .before .before .before .before .before .before .before .before .before .before .before .before .before .before .before .before .before in
     let strict = c .before .before .before .before .before .before .before .before .before .before .before .before .before .attempt in
     let last = c .before .before .before .before .attempt2 in (
-      says-last (phrase start) (columns start) (strict .result) (strict .ensures .0) (sym (c .before .before .before .before .before .before .before .before .is-found .ensures) ∙ c .before .before .before .before .before .before .before .if1 .left) (last .result) (last .ensures .0),
+      says-last (phrase start) (columns start) (strict .result) (strict .ensures .0)
+          (sym (c .before .before .before .before .before .before .before .before .is-found .ensures)
+          ∙ c .before .before .before .before .before .before .before .if1 .left) (last .result) (last .ensures .0),
       (last .ensures .1 .0 ∙ strict .ensures .1 .0, last .ensures .1 .1 ∙ strict .ensures .1 .1),
     )
 

@@ -51,7 +51,8 @@ returns : tie.Need-returns
 returns c =
     let a = c .before .before .before .before .before .before .before .before .args in
     decodes-refused (a .«record» .now) (a .best .now) (a .back .now) (a .out .now) _
-    (refused-call (a .«record» .now) (length (a .best .now)) (length (a .back .now)) (length (a .out .now)) _ (sym (c .before .before .before .check-areas .ensures) ∙ c .before .checked .given .1))
+    (refused-call (a .«record» .now) (length (a .best .now)) (length (a .back .now)) (length (a .out .now)) _
+    (sym (c .before .before .before .check-areas .ensures) ∙ c .before .checked .given .1))
 
 same-length : tie.Need-same-length
 same-length c = decoded c .decode-accepted .kept .1 .1 .0
@@ -67,7 +68,8 @@ returns-2 c =
     let ok = call (found (decoded c)) in
     let a = entered (found (decoded c)) .args in
     let left = decoded c .decode-accepted .ensures in
-    decodes-accepted (a .«record» .now) (a .best .now) (a .back .now) (a .out .now) _ (ok .none-given) (sym (candidate-count (ok .laid))) (left .words) (left .values) (left .marks)
+    decodes-accepted (a .«record» .now) (a .best .now) (a .back .now) (a .out .now) _ (ok .none-given) (sym (candidate-count (ok .laid)))
+    (left .words) (left .values) (left .marks)
 
 pub decode-spec : {M : Type 1} → statement M
 decode-spec =

@@ -1,20 +1,18 @@
 -- The work areas are cleared, the stages are laid, and the entries of all candidates are written.
 use Prim.Native.Nat.{ℕ}
-use mathlib.Core.List.{List, _++_}
+use mathlib.Core.List.{_++_}
 use mathlib.Core.Path.{_≡_, ap, subst, subst⁻¹, _∙_}
 use lib.ListN.{drop, replicate}
-use lib.Ieee.{Float, binary64, ofBits}
+use lib.Ieee.{binary64, ofBits}
 use native.Mathlib.Omega.{arith}
 use borrow.Author.Needs.{needs}
 use Rattle.limits.specs.Sizes.{workCells}
 use Rattle.limits.specs.inner.Moderate.{Moderate}
-use Rattle.limits.specs.declared.edition.Limits.{Limits}
 use Rattle.limits.proofs.Editions.{moderate}
 use Rattle.record.specs.Layout.{limitsOf}
-use Rattle.record.specs.inner.Accepted.{Laid}
 use Rattle.record.proofs.Accepted.{laid-limits}
 use Rattle.decode.proofs.Cleared.{unused-cleared}
-use Rattle.decode.proofs.Plans.{lends}
+use Rattle.decode.proofs.Plans.{both-prepared}
 use Rattle.decode.proofs.decode.decode_accepted.Statement.{statement}
 use Rattle.decode.proofs.decode.decode_accepted.Tie as tie
 
@@ -43,9 +41,13 @@ limits-of-requires c κs = search needs
 work-cells-requires : tie.Need-work-cells-requires
 work-cells-requires c κs = subst⁻¹ Moderate (c .before .before .limits-of .ensures) (moderate _)
 
-cells : (c : tie.After-work-cells) → c .work-cells .result ≡ workCells (limitsOf (c .before .before .before .before .before .before .before .before .args .«record» .now))
+cells : (c : tie.After-work-cells)
+    → c .work-cells .result ≡ workCells (limitsOf (c .before .before .before .before .before .before .before .before .args .«record» .now))
 cells c =
-    c .work-cells .ensures ∙ ap workCells (c .before .before .before .limits-of .ensures ∙ laid-limits (c .before .before .before .before .before .before .before .before .pre .0))
+    c .work-cells .ensures
+    ∙ ap workCells
+    (c .before .before .before .limits-of .ensures
+    ∙ laid-limits (c .before .before .before .before .before .before .before .before .pre .0))
 
 clear-requires : tie.Need-clear-requires
 clear-requires c κs =
@@ -57,12 +59,15 @@ values : (c : tie.After-clear) →
     let n = workCells (limitsOf (entered c .args .«record» .now)) in
     c .clear .last .0 ≡ replicate n (ofBits binary64 0) ++ drop n (entered c .args .best .now)
 values c =
-    subst (λ (n : ℕ). c .clear .last .0 ≡ replicate n (ofBits binary64 0) ++ drop n (entered c .args .best .now)) (cells (c .before)) (c .clear .ensures .0)
+    subst (λ (n : ℕ). c .clear .last .0 ≡ replicate n (ofBits binary64 0) ++ drop n (entered c .args .best .now)) (cells (c .before))
+    (c .clear .ensures .0)
 
 marks : (c : tie.After-clear) →
     let n = workCells (limitsOf (entered c .args .«record» .now)) in
     c .clear .last .1 .0 ≡ replicate n 0 ++ drop n (entered c .args .back .now)
-marks c = subst (λ (n : ℕ). c .clear .last .1 .0 ≡ replicate n 0 ++ drop n (entered c .args .back .now)) (cells (c .before)) (c .clear .ensures .1)
+marks c =
+    subst (λ (n : ℕ). c .clear .last .1 .0 ≡ replicate n 0 ++ drop n (entered c .args .back .now)) (cells (c .before))
+    (c .clear .ensures .1)
 
 -- ---- the stages
 
@@ -112,8 +117,10 @@ put-candidates-requires c κs =
       record {
         laid = start .pre .0;
         planned = at-plan .plan-of .ensures;
-        lent = lends (at-plan .plan-of .ensures) (at-laid .lay-stage .ensures) (at-added .lay-added .ensures);
-        unused = unused-cleared (start .args .best .now) (start .args .back .now) n (values at-clear) (marks at-clear) (start .pre .1 .values) (start .pre .1 .marks);
+        lent = both-prepared (at-plan .plan-of .ensures) (at-laid .lay-stage .ensures) (at-added .lay-added .ensures);
+        unused =
+            unused-cleared (start .args .best .now) (start .args .back .now) n (values at-clear) (marks at-clear) (start .pre .1 .values)
+            (start .pre .1 .marks);
       },
       start .pre .1 .words,
     )

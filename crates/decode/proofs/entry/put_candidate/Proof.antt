@@ -13,7 +13,7 @@ use Rattle.record.specs.inner.Reading.{candidateOf}
 use Rattle.record.proofs.Accepted.{laid-limits, own-moderate}
 use Rattle.decode.specs.Scored.{ScoredAs}
 use Rattle.decoding.specs.EntryOf.{entryOf}
-use Rattle.decode.proofs.Plans.{both-lent}
+use Rattle.decode.proofs.Plans.{both-lists}
 use borrow.Author.Needs.{needs}
 use Rattle.decode.proofs.entry.put_candidate.Statement.{statement}
 use Rattle.decode.proofs.entry.put_candidate.Tie as tie
@@ -21,20 +21,35 @@ use Rattle.decode.proofs.entry.put_candidate.Tie as tie
 search-requires : tie.Need-search-requires
 search-requires c κs =
     let pre = c .before .before .before .before .before .before .before .before .before .before .before .pre in
-    let ready = pre .0 in
-    ((record { laid = ready .laid; figures = ready .planned .costs; listed = pre .1 .0 }, ready .planned .runs), (both-lent (ready .lent), ready .unused))
+    let ready = pre .0 in (
+      (record { laid = ready .laid; figures = ready .planned .costs; listed = pre .1 .0 }, ready .planned .runs),
+      (both-lists (ready .lent), ready .unused),
+    )
 
 score-candidate-requires : tie.Need-score-candidate-requires
 score-candidate-requires c κs =
-    let start = c .before .before .before .before .before .before .before .before .before .before .before .before .before .before .before .before in
-    let ready = start .pre .0 in
-    (ready .laid, (start .pre .1 .0, (ready .planned, (c .before .before .before .before .search .ensures .0, record { figures = start .args .figures .now; addedFigures = start .args .added-figures .now; lent = ready .lent }))))
+    let start =
+    c .before .before .before .before .before .before .before .before .before .before .before .before .before .before .before .before in
+    let ready = start .pre .0 in (
+      ready .laid,
+      (
+        start .pre .1 .0,
+        (
+          ready .planned,
+          (
+            c .before .before .before .before .search .ensures .0,
+            record { figures = start .args .figures .now; addedFigures = start .args .added-figures .now; lent = ready .lent },
+          ),
+        ),
+      ),
+    )
 
 limits-of-requires : tie.Need-limits-of-requires
 limits-of-requires c κs = search needs
 
 abbrev entered : tie.After-limits-of → tie.Start
-entered c = c .before .before .before .before .before .before .before .before .before .before .before .before .before .before .before .before .before .before .before
+entered c =
+    c .before .before .before .before .before .before .before .before .before .before .before .before .before .before .before .before .before .before .before
 
 abbrev scored : tie.After-limits-of → tie.After-score-candidate
 scored c = c .before .before
@@ -49,12 +64,14 @@ entry c = entryOf (phraseOf (entered c .args .bytes .now)) (candidateOf (phraseO
 
 scored-as : (c : tie.After-limits-of) → ScoredAs (c .limits-of .result .units) (entry c) (scored c .score-candidate .result)
 scored-as c =
-    subst⁻¹ (λ (l : Limits). ScoredAs (l .units) (entry c) (scored c .score-candidate .result)) (numbers c) (scored c .score-candidate .ensures)
+    subst⁻¹ (λ (l : Limits). ScoredAs (l .units) (entry c) (scored c .score-candidate .result)) (numbers c)
+    (scored c .score-candidate .ensures)
 
 insert-scored-requires : tie.Need-insert-scored-requires
 insert-scored-requires c κs =
     let start = entered c in (
-      subst⁻¹ (λ (l : Limits). (start .args .number + 1) * entryWords (l .units) ≤ length (start .args .out .now)) (numbers c) (start .pre .1 .1),
+      subst⁻¹ (λ (l : Limits). (start .args .number + 1) * entryWords (l .units) ≤ length (start .args .out .now)) (numbers c)
+          (start .pre .1 .1),
       subst⁻¹ (λ (l : Limits). l .units ≤ mostUnits) (numbers c) (own-moderate (start .args .bytes .now) .units),
       (entry c, scored-as c),
     )
@@ -73,7 +90,8 @@ returns c =
     let put = c .before .before in
     let at-limits = put .before in
     let start = entered at-limits in (
-      subst (λ (l : Limits). Inserted (l .units) (start .args .number) (entry at-limits) (start .args .out .now) (put .insert-scored .last .0)) (numbers at-limits)
+      subst (λ (l : Limits). Inserted (l .units) (start .args .number) (entry at-limits) (start .args .out .now)
+          (put .insert-scored .last .0)) (numbers at-limits)
           (put .insert-scored .ensures (entry at-limits) (scored-as at-limits)),
       c .before .before .before .before .before .before .before .before .before .before .search .ensures .1,
     )

@@ -20,7 +20,10 @@ same-length-2 c = search needs
 returns : tie.Need-returns
 returns c =
     let laid = c .before .before .before .before .before .before .before .before .before .before .before .before .pre .0 in
-    record { there = λ e. c .before .before .before .before .lay-stage .ensures; lacking = λ e. absurd (true≢false (sym (one-added laid (c .before .before .before .before .before .before .before .if1 .taken)) ∙ e)) }
+    record {
+      there = λ e. c .before .before .before .before .lay-stage .ensures;
+      lacking = λ e. absurd (true≢false (sym (one-added laid (c .before .before .before .before .before .before .before .if1 .taken)) ∙ e));
+    }
 
 returns-2 : tie.Need-returns-2
 returns-2 c =

@@ -29,7 +29,9 @@ slice-aggregate-has-nucleus : tie.Need-slice-aggregate-has-nucleus
 slice-aggregate-has-nucleus c = copied-counted (c .before .before .before .anchors .ensures)
 
 has-nucleus-requires : tie.Need-has-nucleus-requires
-has-nucleus-requires c κs = subst⁻¹ (λ (l : List ℕ). length l ≤ mostAnchors) (copied-front (c .before .before .before .anchors .ensures)) (few-anchors (c .before .before .before .before .before .before .pre .0) Nuclei)
+has-nucleus-requires c κs =
+    subst⁻¹ (λ (l : List ℕ). length l ≤ mostAnchors) (copied-front (c .before .before .before .anchors .ensures))
+    (few-anchors (c .before .before .before .before .before .before .pre .0) Nuclei)
 
 spoken-requires : tie.Need-spoken-requires
 spoken-requires c κs = search needs
@@ -39,7 +41,10 @@ returns c =
     let pre = c .before .before .before .before .before .before .before .before .before .pre in
     record {
       spoken = c .before .spoken .ensures ∙ ap speaks (pre .1);
-      voiced = c .before .before .has-nucleus .ensures ∙ runs-voiced (pre .0) (c .before .before .before .before .mask .ensures) (copied-front (c .before .before .before .before .before .before .anchors .ensures));
+      voiced =
+          c .before .before .has-nucleus .ensures
+          ∙ runs-voiced (pre .0) (c .before .before .before .before .mask .ensures)
+          (copied-front (c .before .before .before .before .before .before .anchors .ensures));
       added = runs-added (pre .0);
     }
 

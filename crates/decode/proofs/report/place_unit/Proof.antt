@@ -59,7 +59,9 @@ shared-slice-read-t28 : tie.Need-shared-slice-read-t28
 shared-slice-read-t28 c = search needs
 
 returns : tie.Need-returns
-returns c = let a = c .before .before .before .before .before .args in place-anchored (a .words .now) (a .i) (a .j) (c .before .before .before .if1 .taken)
+returns c =
+    let a =
+    c .before .before .before .before .before .args in place-anchored (a .words .now) (a .i) (a .j) (c .before .before .before .if1 .taken)
 
 returns-2 : tie.Need-returns-2
 returns-2 c = let a = c .before .before .before .before .args in place-bare (a .words .now) (a .i) (a .j) (c .before .before .if1 .left)

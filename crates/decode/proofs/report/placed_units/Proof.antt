@@ -1,12 +1,11 @@
 -- The first units are placed already.
-use Prim.Native.Nat.{ℕ, _+_, _-_, _≤_, _<_}
+use Prim.Native.Nat.{ℕ, _-_, _≤_, _<_}
 use mathlib.Core.List.{List}
 use mathlib.Core.Path.{_≡_, ap, _∙_}
 use native.Mathlib.Omega.{arith}
-use borrow.Author.Needs.{needs}
 use lib.ListN.{length, getD}
 use Rattle.laws.proofs.Listed.{table-none, table-more, length-table}
-use Rattle.laws.specs.Listed.{tableOf}
+use Rattle.laws.specs.inner.Tables.{tableOf}
 use Rattle.limits.specs.Capacity.{mostUnits, mostBoundaries}
 use Rattle.decode.specs.declared.report.PlacedUnit.{PlacedUnit}
 use Rattle.decode.specs.Places.{placeOf, placeAt}
@@ -21,7 +20,8 @@ record Done (unit : ℕ → PlacedUnit) (k s : ℕ) (starts ends rows : List ℕ
   ranked : rows ≡ tableOf (λ i. unit i .row) s mostUnits 0
 
 abbrev Inv-loop : tie.InvT-loop
-Inv-loop k words firsts lasts starts₀ ends₀ rows₀ s₀ starts ends rows s = Done (λ i. placeOf words (getD firsts i 0) (getD lasts i 0)) k s starts ends rows
+Inv-loop k words firsts lasts starts₀ ends₀ rows₀ s₀ starts ends rows s =
+    Done (λ i. placeOf words (getD firsts i 0) (getD lasts i 0)) k s starts ends rows
 
 abbrev μ-loop : tie.MeasureT-loop
 μ-loop k words firsts lasts starts₀ ends₀ rows₀ s₀ starts ends rows s = k - s
@@ -87,19 +87,31 @@ mul-starts : tie.Need-mul-starts Inv-loop μ-loop
 mul-starts c = let known = there (c .before) in omega arith
 
 array-write-starts : tie.Need-array-write-starts Inv-loop μ-loop
-array-write-starts c = let known = there (c .before) in let l = c .before .before .loop in omega (arith, full _ _ _ (l .starts) (l .inv .started) (l .inv .within) (entry (c .before .before) .pre .few))
+array-write-starts c =
+    let known =
+    there (c .before) in let l =
+    c .before .before .loop in omega (
+      arith,
+      full _ _ _ (l .starts) (l .inv .started) (l .inv .within) (entry (c .before .before) .pre .few),
+    )
 
 mul-ends : tie.Need-mul-ends Inv-loop μ-loop
 mul-ends c = let known = there (c .before) in omega arith
 
 array-write-ends : tie.Need-array-write-ends Inv-loop μ-loop
-array-write-ends c = let known = there (c .before) in let l = c .before .before .loop in omega (arith, full _ _ _ (l .ends) (l .inv .ended) (l .inv .within) (entry (c .before .before) .pre .few))
+array-write-ends c =
+    let known =
+    there (c .before) in let l =
+    c .before .before .loop in omega (arith, full _ _ _ (l .ends) (l .inv .ended) (l .inv .within) (entry (c .before .before) .pre .few))
 
 mul-rows : tie.Need-mul-rows Inv-loop μ-loop
 mul-rows c = let known = there (c .before) in omega arith
 
 array-write-rows : tie.Need-array-write-rows Inv-loop μ-loop
-array-write-rows c = let known = there (c .before) in let l = c .before .before .loop in omega (arith, full _ _ _ (l .rows) (l .inv .ranked) (l .inv .within) (entry (c .before .before) .pre .few))
+array-write-rows c =
+    let known =
+    there (c .before) in let l =
+    c .before .before .loop in omega (arith, full _ _ _ (l .rows) (l .inv .ranked) (l .inv .within) (entry (c .before .before) .pre .few))
 
 add-s : tie.Need-add-s Inv-loop μ-loop
 add-s c = let known = there (c .before) in omega arith
@@ -116,9 +128,15 @@ loop-again c =
     let known = there (c .before) in
     record {
       within = omega (arith, c .before .loop-test .taken);
-      started = table-more (λ i. unit i .start) (l .s) mostUnits 0 _ (l .starts) (l .inv .started) (known .placed) (ap (λ (u : PlacedUnit). u .start) placed);
-      ended = table-more (λ i. unit i .end) (l .s) mostUnits 0 _ (l .ends) (l .inv .ended) (known .placed) (ap (λ (u : PlacedUnit). u .end) placed);
-      ranked = table-more (λ i. unit i .row) (l .s) mostUnits 0 _ (l .rows) (l .inv .ranked) (known .placed) (ap (λ (u : PlacedUnit). u .row) placed);
+      started =
+          table-more (λ i. unit i .start) (l .s) mostUnits 0 _ (l .starts) (l .inv .started) (known .placed)
+          (ap (λ (u : PlacedUnit). u .start) placed);
+      ended =
+          table-more (λ i. unit i .end) (l .s) mostUnits 0 _ (l .ends) (l .inv .ended) (known .placed)
+          (ap (λ (u : PlacedUnit). u .end) placed);
+      ranked =
+          table-more (λ i. unit i .row) (l .s) mostUnits 0 _ (l .rows) (l .inv .ranked) (known .placed)
+          (ap (λ (u : PlacedUnit). u .row) placed);
     }
 
 returns : tie.Need-returns Inv-loop μ-loop

@@ -15,7 +15,8 @@ abbrev Inv-loop : tie.InvT-loop
 Inv-loop out₀ at count starts ends rows i₀ out i =
     (i ≤ count)
     × (length out ≡ length out₀)
-    × (sets out₀ at (unitWords (unitsFrom starts ends rows count 0)) ≡ sets out (at + 3 * i) (unitWords (unitsFrom starts ends rows (count - i) i)))
+    × (sets out₀ at (unitWords (unitsFrom starts ends rows count 0))
+    ≡ sets out (at + 3 * i) (unitWords (unitsFrom starts ends rows (count - i) i)))
 
 abbrev μ-loop : tie.MeasureT-loop
 μ-loop out₀ at count starts ends rows i₀ out i = count - i

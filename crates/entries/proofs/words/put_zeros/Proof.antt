@@ -41,7 +41,9 @@ same-length : tie.Need-same-length Inv-loop μ-loop
 same-length c = c .before .loop .inv .1
 
 returns : tie.Need-returns Inv-loop μ-loop
-returns c = sym (c .before .loop .inv .2 ∙ fill-end (c .before .loop .out) 0 (c .before .loop .i) (c .before .before .args .to) (c .loop-test .left))
+returns c =
+    sym (c .before .loop .inv .2
+    ∙ fill-end (c .before .loop .out) 0 (c .before .loop .i) (c .before .before .args .to) (c .loop-test .left))
 
 pub put-zeros-spec : {M : Type 1} → statement M
 put-zeros-spec =

@@ -109,7 +109,8 @@ returns c =
         gapped = in-front fillerLong durations figures p q long p-long q-long gapsAt mostBoundaries (omega arith) ∙ there .gapped;
         stopped = in-front fillerLong durations figures p q long p-long q-long stopsAt mostBoundaries (omega arith) ∙ there .stopped;
       };
-      timed = in-rest fillerLong durations figures p q long p-long q-long 0 durations ∙ take-all durations q (omega arith) ∙ timing .ensures;
+      timed =
+          in-rest fillerLong durations figures p q long p-long q-long 0 durations ∙ take-all durations q (omega arith) ∙ timing .ensures;
       whole = both-long fillerLong durations figures p q long p-long q-long;
     }
 

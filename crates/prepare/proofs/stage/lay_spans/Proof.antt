@@ -6,7 +6,7 @@ use native.Mathlib.Omega.{arith}
 use lib.ListN.{length, getD, replicate, length-replicate}
 use borrow.Rule.Slice.PartMut.{putMid}
 use Rattle.laws.proofs.Listed.{table-same, written-at, length-written}
-use Rattle.laws.specs.Listed.{tableOf, written}
+use Rattle.laws.specs.inner.Tables.{tableOf, written}
 use Rattle.spans.specs.Spans.{spanOf}
 use Rattle.limits.specs.Capacity.{mostAnchors, mostBoundaries}
 use Rattle.stages.specs.Lists.{spanStartsIn}
@@ -93,11 +93,14 @@ part-pick-listed-end c = omega (arith, fresh (entry (c .before .before .before))
 pick-listed-requires : tie.Need-pick-listed-requires
 pick-listed-requires c κs =
     let spans = c .before .before .before .before in
-    let start = entry spans in
-    (listed start (start-of start) (spans .spans-ascending .ensures .0), omega (arith, start .pre .0 .2 .short, laying-long (fresh start) (omega arith)))
+    let start = entry spans in (
+      listed start (start-of start) (spans .spans-ascending .ensures .0),
+      omega (arith, start .pre .0 .2 .short, laying-long (fresh start) (omega arith)),
+    )
 
 started : (c : tie.After-pick-listed)
-    → Laying 0 2 (tables (entry (found c))) 1 (putMid spanStartsIn mostBoundaries (entry (found c) .args .words .now) (c .pick-listed .last .1 .1 .1 .1 .1 .0))
+    → Laying 0 2 (tables (entry (found c))) 1
+    (putMid spanStartsIn mostBoundaries (entry (found c) .args .words .now) (c .pick-listed .last .1 .1 .1 .1 .1 .0))
 started c =
     let start = entry (found c) in
     let spans = found c .spans-ascending in

@@ -6,7 +6,8 @@ use lib.ListN.{take}
 use Rattle.record.specs.Meaning.{phraseOf}
 use Rattle.record.specs.inner.Reading.{stageOf}
 use Rattle.prepare.proofs.Lists.{copied-front, copied-counted, copied-within}
-use Rattle.prepare.proofs.Parts.{few-boundaries, nuclei-first}
+use Rattle.record.proofs.Reading.{nuclei-first}
+use Rattle.prepare.proofs.Parts.{few-boundaries}
 use Rattle.prepare.proofs.Prepared.{prepared}
 use borrow.Author.Needs.{needs}
 use Rattle.prepare.proofs.stage.lay_stage.Statement.{statement}
@@ -67,7 +68,7 @@ returns c =
     let words = c .before .before .before .before .before .before .before in
     let start = entry (reading words) in
     let phrase = phraseOf (start .args .bytes .now) in
-    prepared phrase (stageOf (start .args .which) phrase) (nuclei-first (start .pre .0)) (words .lay-stage-words .ensures)
+    prepared phrase (stageOf (start .args .which) phrase) (nuclei-first (start .args .bytes .now)) (words .lay-stage-words .ensures)
     (c .before .before .lay-figures .ensures)
 
 pub lay-stage-spec : {M : Type 1} → statement M

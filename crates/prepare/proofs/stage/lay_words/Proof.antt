@@ -102,7 +102,8 @@ same-length c = search needs
 
 returns : tie.Need-returns
 returns c =
-    let placed = c .before .before .before .before .before .before .before .before .before .before .before .before .before .before .before .before in
+    let placed =
+    c .before .before .before .before .before .before .before .before .before .before .before .before .before .before .before .before in
     let start = entry placed in
     let anchors = start .args .anchors .now in
     let bounds = start .args .bounds .now in

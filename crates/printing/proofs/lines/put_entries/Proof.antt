@@ -24,7 +24,8 @@ abbrev μ-loop : tie.MeasureT-loop
 
 -- the next entry is there
 inside : (c : tie.In-loop Inv-loop μ-loop)
-    → c .before .loop .i * entryWords (c .before .before .before .before .args .most) + entryWords (c .before .before .before .before .args .most) ≤ length (c .before .before .before .before .args .words .now)
+    → c .before .loop .i * entryWords (c .before .before .before .before .args .most) + entryWords
+    (c .before .before .before .before .args .most) ≤ length (c .before .before .before .before .args .words .now)
 inside c =
     let last = c .before .loop in
     let args = c .before .before .before .before .args in
@@ -89,7 +90,8 @@ loop-again c =
       omega arith,
       omega arith,
       whole-later most words count (last .i) taken (last .inv .2),
-      goes-on {m = entryBytes mostUnits} (last .inv .3) (entries-turn most words count (last .i) taken) (renamed (ap linesIn part) (omega (arith, lines .short, units, first .few, start .pre .0 .0)) lines),
+      goes-on {m = entryBytes mostUnits} (last .inv .3) (entries-turn most words count (last .i) taken)
+          (renamed (ap linesIn part) (omega (arith, lines .short, units, first .few, start .pre .0 .0)) lines),
     )
 
 same-length : tie.Need-same-length Inv-loop μ-loop

@@ -7,7 +7,7 @@ use borrow.Author.Needs.{needs}
 use borrow.Author.Tests.{eq-eqb, ne-eqb}
 use Rattle.text.specs.Ascii.{ascii, decimal}
 use Rattle.text.proofs.Putting.{renamed}
-use Rattle.entries.specs.Entry.{noRow}
+use Rattle.limits.specs.Common.{absent}
 use Rattle.printing.specs.Listing.{rowText}
 use Rattle.printing.proofs.lines.put_row.Statement.{statement}
 use Rattle.printing.proofs.lines.put_row.Tie as tie
@@ -33,7 +33,7 @@ unfolding rowText
 returns c =
     let choice = c .before .before .before .before .before in
     let row = choice .before .before .args .row in
-    renamed (rows-same row (sym (eq-eqb row noRow (choice .if1 .taken)))) (omega arith) (c .before .before .put .ensures)
+    renamed (rows-same row (sym (eq-eqb row absent (choice .if1 .taken)))) (omega arith) (c .before .before .put .ensures)
 
 same-length-2 : tie.Need-same-length-2
 same-length-2 c = search needs
@@ -44,7 +44,7 @@ returns-2 c =
     let written = c .before .before .put-decimal .ensures in
     let choice = c .before .before .before .before in
     let row = choice .before .before .args .row in
-    renamed (rows-same row (sym (ne-eqb row noRow (choice .if1 .left)))) (written .short) written
+    renamed (rows-same row (sym (ne-eqb row absent (choice .if1 .left)))) (written .short) written
 
 pub put-row-spec : {M : Type 1} → statement M
 put-row-spec =

@@ -38,7 +38,9 @@ enum-known-decoded c = search needs
 abbrev called : tie.After-known-told → tie.After-decode
 called c = c .before .before .before .before .before .before
 
-listed : (c : tie.After-known-told) → Listed (called c .before .before .before .before .before .before .args .«record» .now) (called c .decode .last .1 .1 .1 .0) (c .before .decoded .given .0 .0)
+listed : (c : tie.After-known-told)
+    → Listed (called c .before .before .before .before .before .before .args .«record» .now) (called c .decode .last .1 .1 .1 .0)
+    (c .before .decoded .given .0 .0)
 listed c = accepted-listing own-arrays (called c .decode .ensures) (c .before .decoded .given .0 .0) (c .before .decoded .given .1)
 
 trailer-of-requires : tie.Need-trailer-of-requires
@@ -48,7 +50,8 @@ limits-of-requires : tie.Need-limits-of-requires
 limits-of-requires c κs = search needs
 
 -- the numbers are those of the record's edition
-numbers : (c : tie.After-limits-of) → c .limits-of .result ≡ limitsOf (called (c .before .before) .before .before .before .before .before .before .args .«record» .now)
+numbers : (c : tie.After-limits-of)
+    → c .limits-of .result ≡ limitsOf (called (c .before .before) .before .before .before .before .before .before .args .«record» .now)
 numbers c = c .limits-of .ensures ∙ ap (λ (t : Trailer). numbersOf (t .edition)) (c .before .trailer-of .ensures)
 
 slice-aggregate-put-decoded : tie.Need-slice-aggregate-put-decoded
@@ -59,9 +62,14 @@ put-decoded-requires c κs =
     let at-limits = c .before .before in
     let told = at-limits .before .before in
     let own = listed told in
-    let few = subst⁻¹ (λ (l : Limits). l .units ≤ mostUnits) (numbers at-limits) (own-moderate (called told .before .before .before .before .before .before .args .«record» .now) .units) in
-    let room = called told .before .before .before .before .before .before .pre in
-    ((few, omega (arith, own .few, room)), subst⁻¹ (λ (l : Limits). AllWhole (l .units) (told .before .decoded .given .0 .0) (called told .decode .last .1 .1 .1 .0)) (numbers at-limits) (own .whole))
+    let few =
+    subst⁻¹ (λ (l : Limits). l .units ≤ mostUnits) (numbers at-limits)
+    (own-moderate (called told .before .before .before .before .before .before .args .«record» .now) .units) in
+    let room = called told .before .before .before .before .before .before .pre in (
+      (few, omega (arith, own .few, room)),
+      subst⁻¹ (λ (l : Limits). AllWhole (l .units) (told .before .decoded .given .0 .0) (called told .decode .last .1 .1 .1 .0))
+          (numbers at-limits) (own .whole),
+    )
 
 enum-known-decoded-2 : tie.Need-enum-known-decoded-2
 enum-known-decoded-2 c = search needs
@@ -84,7 +92,9 @@ returns c =
     let start = called told .before .before .before .before .before .before in
     let count = told .before .decoded .given .0 .0 in
     let words = called told .decode .last .1 .1 .1 .0 in
-    let lines = subst⁻¹ (λ (l : Limits). decodedIn (entryWords (l .units)) count words ≡ listingOf (start .args .«record» .now)) (numbers at-limits) (own .lines) in
+    let lines =
+    subst⁻¹ (λ (l : Limits). decodedIn (entryWords (l .units)) count words ≡ listingOf (start .args .«record» .now)) (numbers at-limits)
+    (own .lines) in
     rendered lines (omega (arith, own .few)) (start .pre) (put .put-decoded .ensures)
 
 same-length-2 : tie.Need-same-length-2
@@ -96,7 +106,8 @@ returns-2 c =
     let call = found .before .before .before .before .before in
     let own = refused-listing own-arrays (call .decode .ensures) (found .decoded2 .given .0 .0) (found .decoded2 .given .1) in
     let room = call .before .before .before .before .before .before .pre in
-    rendered (ap refusedText (c .before .before .before .number .ensures) ∙ own) (omega arith) room (c .before .before .put-refused .ensures)
+    rendered (ap refusedText (c .before .before .before .number .ensures) ∙ own) (omega arith) room
+    (c .before .before .put-refused .ensures)
 
 pub render-spec : {M : Type 1} → statement M
 render-spec =

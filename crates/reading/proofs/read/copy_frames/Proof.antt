@@ -7,7 +7,8 @@ use native.Mathlib.Omega.{arith}
 use lib.ListN.{length, drop, set}
 use denote.Ref.{now}
 use Rattle.laws.proofs.Listed.{length-listed, written-none, written-more, length-written}
-use Rattle.laws.specs.Listed.{listed, written}
+use Rattle.laws.specs.Listed.{listed}
+use Rattle.laws.specs.inner.Tables.{written}
 use Rattle.record.specs.Bytes.{u32At}
 use Rattle.reading.proofs.read.copy_frames.Statement.{statement}
 use Rattle.reading.proofs.read.copy_frames.Tie as tie

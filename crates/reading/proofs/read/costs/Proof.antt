@@ -7,6 +7,7 @@ use denote.Ref.{now}
 use lib.Dec.{T}
 use lib.Ieee.{binary32, binary64, ofBits, nanBits}
 use Rattle.phrase.specs.Phrase.{Phrase}
+use Rattle.record.specs.Format.{insertionAt, unvoicedAt}
 use Rattle.record.specs.Meaning.{phraseAt, costsAt}
 use Rattle.record.specs.Bytes.{u32At, u64At}
 use Rattle.record.specs.inner.Accepted.{Laid}
@@ -23,11 +24,11 @@ module _ {bytes : List ℕ} {at : Layout} (h : Laid bytes at) where
   unfolding phraseAt
   real-per-frame = real-bits binary64 _ (within-real (fit-at h .perFrame))
 
-  real-insertion : T (not (nanBits binary64 (u64At bytes (at .costs + 8))))
+  real-insertion : T (not (nanBits binary64 (u64At bytes (at .costs + insertionAt))))
   unfolding phraseAt
   real-insertion = real-bits binary64 _ (within-real (fit-at h .insertion))
 
-  real-unvoiced : T (not (nanBits binary32 (u32At bytes (at .costs + 16))))
+  real-unvoiced : T (not (nanBits binary32 (u32At bytes (at .costs + unvoicedAt))))
   unfolding phraseAt
   real-unvoiced = real-bits binary32 _ (within-real (fit-at h .unvoiced))
 

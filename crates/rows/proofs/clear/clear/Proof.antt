@@ -11,7 +11,8 @@ use Rattle.rows.proofs.clear.clear.Statement.{statement}
 use Rattle.rows.proofs.clear.clear.Tie as tie
 
 -- one more cell of a list that is filled from the front
-filled-more : {A : Type 0} (n : ℕ) (v : A) (d : List A) → n < length d → set (replicate n v ++ drop n d) n v ≡ replicate (n + 1) v ++ drop (n + 1) d
+filled-more : {A : Type 0} (n : ℕ) (v : A) (d : List A) → n < length d
+    → set (replicate n v ++ drop n d) n v ≡ replicate (n + 1) v ++ drop (n + 1) d
 filled-more {A} n v d l = subst (λ (k : ℕ). set (replicate n v ++ drop n d) n v ≡ replicate k v ++ drop k d) (sym (add-one n)) (go n d l)
   where
     go : (n : ℕ) (d : List A) → n < length d → set (replicate n v ++ drop n d) n v ≡ replicate (suc n) v ++ drop (suc n) d
@@ -62,7 +63,9 @@ loop-again c =
       bounded = omega arith;
       valued = length-set (c .before .loop .best) at (ofBits binary64 0) ∙ was .valued;
       marked = length-set (c .before .loop .back) at 0 ∙ was .marked;
-      values = ap (λ (l : List Float). set l at (ofBits binary64 0)) (was .values) ∙ filled-more at (ofBits binary64 0) (a .best .now) (omega arith);
+      values =
+          ap (λ (l : List Float). set l at (ofBits binary64 0)) (was .values)
+          ∙ filled-more at (ofBits binary64 0) (a .best .now) (omega arith);
       marks = ap (λ (l : List ℕ). set l at 0) (was .marks) ∙ filled-more at 0 (a .back .now) (omega arith);
     }
 

@@ -41,13 +41,15 @@ or-ends end later = go (lt (end .sum) (later .sum))
 abbrev endAt : List Float → List Float → ℕ → End
 endAt best stop j = record { sum = sub binary64 (getD best j nan) (getD stop j nan); boundary = j }
 
-module _ {q : Problem} {stop : List Float} {n since : ℕ} (stops : StopsOf q stop n) (best : List Float) (back : List ℕ) {cells : ℕ → Cell Marked}
+module _ {q : Problem} {stop : List Float} {n since : ℕ} (stops : StopsOf q stop n) (best : List Float)
+    (back : List ℕ) {cells : ℕ → Cell Marked}
     (row : Row best back first n cells) (reach : ReachedFrom cells n since) where
   none-before : (m : ℕ) → m ≤ since → m ≤ n → bestOf higherEnd m (stopping q cells) ≡ empty
   unfolding bestOf stopping carry
   none-before zero h k = refl
   none-before (suc m) h k =
-      rw (row-empty best back row reach m (omega arith) (omega arith)) (keep-empty higherEnd (bestOf higherEnd m (stopping q cells)) ∙ none-before m (omega arith) (omega arith))
+      rw (row-empty best back row reach m (omega arith) (omega arith))
+      (keep-empty higherEnd (bestOf higherEnd m (stopping q cells)) ∙ none-before m (omega arith) (omega arith))
 
   stopping-at : (j : ℕ) → j < n → since ≤ j → stopping q cells j ≡ held (endedBy (endAt best stop j))
   unfolding stopping carry
@@ -69,7 +71,8 @@ record Ending (best stop : List Float) (n since : ℕ) (end : End) (j : ℕ) : T
   begun : since < j
   bounded : j ≤ n
   chosen :
-      (q : Problem) → StopsOf q stop n → (back : List ℕ) (cells : ℕ → Cell Marked) → Row best back first n cells → ReachedFrom cells n since →
+      (q : Problem) → StopsOf q stop n → (back : List ℕ) (cells : ℕ → Cell Marked) → Row best back first n cells →
+      ReachedFrom cells n since →
       bestOf higherEnd j (stopping q cells) ≡ held (endedBy end)
 
 abbrev Inv-loop : tie.InvT-loop
@@ -132,7 +135,8 @@ loop-again c =
       begun = omega (arith, l .inv .begun);
       bounded = omega arith;
       chosen = λ q stops back cells row reach.
-          one-more stops (start .args .best .now) back row reach (l .j) (l .end) turning (omega (arith, l .inv .begun)) (l .inv .chosen q stops back cells row reach)
+          one-more stops (start .args .best .now) back row reach (l .j) (l .end) turning (omega (arith, l .inv .begun))
+          (l .inv .chosen q stops back cells row reach)
           ∙ ap (λ (e : End). held (endedBy e)) (sym (c .or .ensures));
     }
 

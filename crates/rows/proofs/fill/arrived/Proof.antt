@@ -44,7 +44,8 @@ voice-is :
     (c : tie.Joined1) →
     let a = entry (c .before) .args in
     c .if1 .voice
-    ≡ cond (ltb (a .low) (getD (a .words .now) (middlesAt + a .j) 0)) (scoreRead (a .bytes .now) (a .words .now) (a .column) (a .j)) (a .costs .«unvoiced»)
+    ≡ cond (ltb (a .low) (getD (a .words .now) (middlesAt + a .j) 0)) (scoreRead (a .bytes .now) (a .words .now) (a .column) (a .j))
+    (a .costs .«unvoiced»)
 voice-is c =
     let a = entry (c .before) .args in
     let middle = getD (a .words .now) (middlesAt + a .j) 0 in
@@ -113,8 +114,10 @@ returns c =
     let first = anchored .before in
     let joined = first .before in
     let a = entry (joined .before) .args in
-    kept-is (a .best .now) (a .words .now) (a .figures .now) (scoreRead (a .bytes .now) (a .words .now) (a .column) (a .j)) (a .costs) (a .j) (a .low) (a .end) _ _ _ _ _ _
-    (bare .unanchored2 .ensures) (voice-is joined) (first .unit-from .ensures) (anchored .units-from .ensures) (larger .larger .ensures) (c .units-from2 .ensures)
+    kept-is (a .best .now) (a .words .now) (a .figures .now) (scoreRead (a .bytes .now) (a .words .now) (a .column) (a .j)) (a .costs)
+    (a .j) (a .low) (a .end) _ _ _ _ _ _
+    (bare .unanchored2 .ensures) (voice-is joined) (first .unit-from .ensures) (anchored .units-from .ensures) (larger .larger .ensures)
+    (c .units-from2 .ensures)
 
 pub arrived-spec : {M : Type 1} → statement M
 arrived-spec =

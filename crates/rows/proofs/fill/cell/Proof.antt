@@ -5,7 +5,7 @@ use native.Mathlib.Omega.{arith}
 use Rattle.stages.specs.Lists.{lowsAt}
 use Rattle.rows.specs.Reads.{scoreRead}
 use Rattle.rows.specs.Units.{RowTables, rowTables, lowAt, endAt}
-use Rattle.rows.proofs.Kept.{low-is, end-is, middle-inside, unit-read, alone-later, cell-gap, cell-units, cell-both}
+use Rattle.rows.proofs.Kept.{low-is, end-is, middle-inside, unit-read, cell-gap, cell-units, cell-both}
 use native.Mathlib.Omega.{arith}
 use borrow.Author.Needs.{needs}
 use Rattle.rows.proofs.fill.cell.Statement.{statement}
@@ -21,21 +21,27 @@ abbrev end : tie.After-origins-end → ℕ
 end c = c .origins-end .result
 
 abbrev tables : tie.After-origins-end → RowTables
-tables c = let a = entry c .args in rowTables (a .n) (a .words .now) (a .figures .now) (scoreRead (a .bytes .now) (a .words .now) (a .column)) (a .costs) (a .strictness)
+tables c =
+    let a =
+    entry c .args in rowTables (a .n) (a .words .now) (a .figures .now) (scoreRead (a .bytes .now) (a .words .now) (a .column)) (a .costs)
+    (a .strictness)
 
 lowest : (c : tie.After-origins-end) → low c ≡ max (lowAt (tables c) (entry c .args .j)) (entry c .args .before)
 lowest c =
     let a = entry c .args in
     let p = entry c .pre in
     c .before .larger .ensures
-    ∙ ap (λ (x : ℕ). max x (a .before)) (sym (low-is (a .n) (a .words .now) (a .figures .now) (scoreRead (a .bytes .now) (a .words .now) (a .column)) (a .costs) (a .strictness) (p .0 .0) (p .0 .1) (p .0 .3) (a .j) (p .1 .2)))
+    ∙ ap (λ (x : ℕ). max x (a .before))
+    (sym (low-is (a .n) (a .words .now) (a .figures .now) (scoreRead (a .bytes .now) (a .words .now) (a .column)) (a .costs) (a .strictness)
+    (p .0 .0) (p .0 .1) (p .0 .3) (a .j) (p .1 .2)))
 
 ending : (c : tie.After-origins-end) → end c ≡ endAt (tables c) (entry c .args .j)
 ending c =
     let a = entry c .args in
     let p = entry c .pre in
     c .origins-end .ensures
-    ∙ sym (end-is (a .n) (a .words .now) (a .figures .now) (scoreRead (a .bytes .now) (a .words .now) (a .column)) (a .costs) (a .strictness) (p .0 .0) (p .0 .1) (p .0 .3) (a .j) (p .1 .2))
+    ∙ sym (end-is (a .n) (a .words .now) (a .figures .now) (scoreRead (a .bytes .now) (a .words .now) (a .column)) (a .costs)
+    (a .strictness) (p .0 .0) (p .0 .1) (p .0 .3) (a .j) (p .1 .2))
 
 add-larger : tie.Need-add-larger
 add-larger c = search needs
@@ -72,7 +78,8 @@ returns c =
     let here = c .before .before in
     let a = entry here .args in
     let p = entry here .pre in
-    cell-gap (a .n) (a .words .now) (a .figures .now) (scoreRead (a .bytes .now) (a .words .now) (a .column)) (a .costs) (a .strictness) (p .0 .0) (p .0 .1) (p .0 .3) (a .j) (p .1 .2) (a .best .now) (p .1 .0)
+    cell-gap (a .n) (a .words .now) (a .figures .now) (scoreRead (a .bytes .now) (a .words .now) (a .column)) (a .costs) (a .strictness)
+    (p .0 .0) (p .0 .1) (p .0 .3) (a .j) (p .1 .2) (a .best .now) (p .1 .0)
     (a .before) (a .since) (a .last) (p .1 .1) (p .1 .3) (low here) (end here) (lowest here) (ending here) (c .before .if1 .taken)
 
 arrived-requires : tie.Need-arrived-requires
@@ -85,9 +92,11 @@ arrived-requires c κs =
         (
           p .0 .2,
           rw (here .origins-end .ensures)
-              (middle-inside (a .n) (a .words .now) (a .figures .now) (scoreRead (a .bytes .now) (a .words .now) (a .column)) (a .costs) (a .strictness) (p .0 .0) (p .0 .1) (p .0 .3) (a .j) (p .1 .2)),
+              (middle-inside (a .n) (a .words .now) (a .figures .now) (scoreRead (a .bytes .now) (a .words .now) (a .column)) (a .costs)
+              (a .strictness) (p .0 .0) (p .0 .1) (p .0 .3) (a .j) (p .1 .2)),
         ),
-        unit-read (a .n) (a .words .now) (a .figures .now) (scoreRead (a .bytes .now) (a .words .now) (a .column)) (a .costs) (a .strictness) (p .0 .0) (p .0 .1) (p .0 .3) (a .j) (p .1 .2) (a .best .now) (p .1 .0)
+        unit-read (a .n) (a .words .now) (a .figures .now) (scoreRead (a .bytes .now) (a .words .now) (a .column)) (a .costs)
+            (a .strictness) (p .0 .0) (p .0 .1) (p .0 .3) (a .j) (p .1 .2) (a .best .now) (p .1 .0)
             (low here) (end here) (omega (arith, lowest here)) (ending here),
       ),
     )
@@ -113,8 +122,10 @@ returns-2 c =
     let a = entry here .args in
     let p = entry here .pre in
     rw (c .or .ensures, c .before .before .before .arrived .ensures)
-    (cell-both (a .n) (a .words .now) (a .figures .now) (scoreRead (a .bytes .now) (a .words .now) (a .column)) (a .costs) (a .strictness) (p .0 .0) (p .0 .1) (p .0 .3) (a .j) (p .1 .2) (a .best .now) (p .1 .0)
-    (a .before) (a .since) (a .last) (p .1 .1) (p .1 .3) (low here) (end here) (lowest here) (ending here) (c .before .before .before .before .if1 .left) (c .before .before .if2 .taken))
+    (cell-both (a .n) (a .words .now) (a .figures .now) (scoreRead (a .bytes .now) (a .words .now) (a .column)) (a .costs) (a .strictness)
+    (p .0 .0) (p .0 .1) (p .0 .3) (a .j) (p .1 .2) (a .best .now) (p .1 .0)
+    (a .before) (a .since) (a .last) (p .1 .1) (p .1 .3) (low here) (end here) (lowest here) (ending here)
+    (c .before .before .before .before .if1 .left) (c .before .before .if2 .taken))
 
 returns-3 : tie.Need-returns-3
 returns-3 c =
@@ -122,8 +133,10 @@ returns-3 c =
     let a = entry here .args in
     let p = entry here .pre in
     rw (c .before .arrived .ensures)
-    (cell-units (a .n) (a .words .now) (a .figures .now) (scoreRead (a .bytes .now) (a .words .now) (a .column)) (a .costs) (a .strictness) (p .0 .0) (p .0 .1) (p .0 .3) (a .j) (p .1 .2) (a .best .now) (p .1 .0)
-    (a .before) (a .since) (a .last) (p .1 .1) (p .1 .3) (low here) (end here) (lowest here) (ending here) (c .before .before .if1 .left) (c .if2 .left))
+    (cell-units (a .n) (a .words .now) (a .figures .now) (scoreRead (a .bytes .now) (a .words .now) (a .column)) (a .costs) (a .strictness)
+    (p .0 .0) (p .0 .1) (p .0 .3) (a .j) (p .1 .2) (a .best .now) (p .1 .0)
+    (a .before) (a .since) (a .last) (p .1 .1) (p .1 .3) (low here) (end here) (lowest here) (ending here) (c .before .before .if1 .left)
+    (c .if2 .left))
 
 pub cell-spec : {M : Type 1} → statement M
 cell-spec =

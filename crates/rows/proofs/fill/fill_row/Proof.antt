@@ -24,8 +24,10 @@ use Rattle.rows.proofs.Kept.{arrivals-none}
 use Rattle.rows.proofs.fill.fill_row.Statement.{statement}
 use Rattle.rows.proofs.fill.fill_row.Tie as tie
 
--- the row's cells from its first reached boundary up to j are filled, `last` is the value of the last of them, and all others are as they were
-record Filling (t : RowTables) (n before since : ℕ) (best₀ : List Float) (back₀ : List ℕ) (best : List Float) (back : List ℕ) (last : Float) (j : ℕ) : Type 0 where
+-- the row's cells from its first reached boundary up to j are filled, `last` is the value of the last of them, and all others are as they
+-- were
+record Filling (t : RowTables) (n before since : ℕ) (best₀ : List Float) (back₀ : List ℕ) (best : List Float) (back : List ℕ) (last : Float)
+    (j : ℕ) : Type 0 where
   begun : since ≤ j
   bounded : j ≤ n
   valued : length best ≡ length best₀
@@ -37,9 +39,11 @@ record Filling (t : RowTables) (n before since : ℕ) (best₀ : List Float) (ba
   below : (at : ℕ) → at < n + since → Same best₀ back₀ best back at
   above : (at : ℕ) → n + j ≤ at → Same best₀ back₀ best back at
 
-module _ {t : RowTables} {n before since : ℕ} {best₀ : List Float} {back₀ : List ℕ} {best : List Float} {back : List ℕ} {last : Float} {j : ℕ}
+module _ {t : RowTables} {n before since : ℕ} {best₀ : List Float} {back₀ : List ℕ} {best : List Float} {back : List ℕ} {last : Float}
+    {j : ℕ}
     (was : Filling t n before since best₀ back₀ best back last j) (more : j < n) (b : n + n ≤ length best₀) (m : n + n ≤ length back₀)
-    (way : Way) (cell : CellOf t best n before since j last way) (value : Float) (mark : ℕ) (valued : value ≡ wayValue way) (marked : mark ≡ wayMark way) where
+    (way : Way) (cell : CellOf t best n before since j last way) (value : Float) (mark : ℕ) (valued : value ≡ wayValue way)
+    (marked : mark ≡ wayMark way) where
   beside : (at : ℕ) → (at ≡ n + j → ⊥) → Same best back (set best (n + j) value) (set back (n + j) mark) at
   beside = stored-beside best back (n + j) value mark
 
@@ -48,7 +52,8 @@ module _ {t : RowTables} {n before since : ℕ} {best₀ : List Float} {back₀ 
       ReachedFrom cells n before → Filled (set best (n + j) value) (set back (n + j) mark) (n + j) (nextCells q s cells j)
   here q s gaps of cells row reach =
       stored-filled best back (n + j) way (omega (arith, was .valued)) (omega (arith, was .marked)) valued marked
-      (cell .kept q s gaps of back cells (λ i h. same-holds (was .below i (omega arith)) (row i h)) reach (getD back (n + (j - 1)) 0) before-it)
+      (cell .kept q s gaps of back cells (λ i h. same-holds (was .below i (omega arith)) (row i h)) reach
+      (getD back (n + (j - 1)) 0) before-it)
     where
       before-it : since < j → nextCells q s cells (j - 1) ≡ held (record { value = last; mark = getD back (n + (j - 1)) 0 })
       before-it after =
@@ -60,12 +65,15 @@ module _ {t : RowTables} {n before since : ℕ} {best₀ : List Float} {back₀ 
     bounded = omega arith;
     valued = length-set best (n + j) value ∙ was .valued;
     marked = length-set back (n + j) mark ∙ was .marked;
-    done = λ q s gaps of cells row reach. below-more (λ i. since ≤ i → i < n → Filled (set best (n + j) value) (set back (n + j) mark) (n + i) (nextCells q s cells i)) j
+    done =
+        λ q s gaps of cells row reach. below-more
+        (λ i. since ≤ i → i < n → Filled (set best (n + j) value) (set back (n + j) mark) (n + i) (nextCells q s cells i)) j
         (λ i h k l. same-filled (beside (n + i) (λ e. omega arith)) (was .done q s gaps of cells row reach i h k l))
         (λ h k. here q s gaps of cells row reach);
     carried = λ after.
         let place : n + (j + 1 - 1) ≡ n + j = omega arith in
-        sym (ap (λ (at : ℕ). getD (set best (n + j) value) at nan) place ∙ getD-set-same best (n + j) value nan (omega (arith, was .valued)));
+        sym (ap (λ (at : ℕ). getD (set best (n + j) value) at nan) place
+        ∙ getD-set-same best (n + j) value nan (omega (arith, was .valued)));
     below = λ at h. same-trans (was .below at h) (beside at (λ e. omega (arith, was .begun)));
     above = λ at h. same-trans (was .above at (omega arith)) (beside at (λ e. omega arith));
   }
@@ -151,7 +159,8 @@ loop-again c =
     let start = c .before .before .before .before .before .before .before .before .before .before .before in
     let l = c .before .before .before .before .before .loop in
     turned (l .inv) (c .before .before .before .before .loop-test .taken) (start .pre .1 .0 .0) (start .pre .1 .0 .1)
-    (c .before .before .cell .result) (c .before .before .cell .ensures) (c .before .value .result) (c .mark .result) (c .before .value .ensures) (c .mark .ensures)
+    (c .before .before .cell .result) (c .before .before .cell .ensures) (c .before .value .result) (c .mark .result)
+    (c .before .value .ensures) (c .mark .ensures)
 
 same-length : tie.Need-same-length Inv-loop μ-loop
 same-length c = c .before .loop .inv .valued

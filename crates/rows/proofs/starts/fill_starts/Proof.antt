@@ -3,23 +3,21 @@ use mathlib.Core.List.{List}
 use mathlib.Core.Logic.{_⊎_, inl, inr, ⊎-elim}
 use mathlib.Core.Path.{_≡_, refl, sym, ap, subst, _∙_}
 use Prim.Native.Nat.{ℕ, zero, suc, _+_, _-_, _≤_, _<_}
-use native.Mathlib.Nat.{le-refl}
 use native.Mathlib.Omega.{arith}
 use lib.Ieee.{Float, binary64, sub, nan}
 use lib.ListN.{length, getD, set, length-set}
-use lib.Seq.{getD-set-same}
 use borrow.Author.Count.{below-more}
 use borrow.Author.Needs.{needs}
 use Rattle.paths.specs.Problem.{Problem}
-use Rattle.paths.specs.Cell.{Cell, held, keep, carry}
+use Rattle.paths.specs.Cell.{held, keep, carry}
 use Rattle.paths.specs.CellRule.{rows, sweep}
-use Rattle.paths.specs.inner.Marks.{Marked, marks}
+use Rattle.paths.specs.inner.Marks.{marks}
 use Rattle.limits.specs.Capacity.{mostBoundaries}
 use Rattle.stages.specs.Lists.{startsAt, gapsAt, tableAt}
 use Rattle.rows.specs.declared.way.Way.{Way}
 use Rattle.rows.specs.declared.way.Way.the-variants.{Start, Gap}
 use Rattle.rows.specs.Ways.{wayValue, wayMark, Markable, markedBy, orLater}
-use Rattle.rows.specs.Rows.{Row, HoldsAt, Same, StartsOf, GapsOf, first}
+use Rattle.rows.specs.Rows.{Same, StartsOf, GapsOf}
 use Rattle.rows.proofs.Lists.{table-at}
 use Rattle.rows.proofs.Cells.{higher, same-refl, same-trans, stored-beside, or-keeps, or-markable, Filled, filled-holds, same-filled, stored-filled}
 use Rattle.rows.proofs.starts.fill_starts.Statement.{statement}
@@ -45,22 +43,26 @@ next-start q (suc j) h =
 gap-from :
     (q : Problem) (figures best : List Float) (mark j : ℕ) → 0 < j → getD (tableAt gapsAt figures) (j - 1) nan ≡ q .gapCost (j - 1) →
     getD (tableAt gapsAt figures) (j - 1) nan ≡ getD figures (gapsAt + (j - 1)) nan →
-    carry (marks q .overGap (j - 1)) (held (record { value = getD best (j - 1) nan; mark = mark })) ≡ held (markedBy (gapWay best figures j))
+    carry (marks q .overGap (j - 1)) (held (record { value = getD best (j - 1) nan; mark = mark }))
+    ≡ held (markedBy (gapWay best figures j))
 unfolding carry marks gapWay
 gap-from q figures best mark j h cost table =
     let place : gapsAt + (j - 1) ≡ gapsAt + j - 1 = omega arith in
     rw (← cost, table, place)
 
 -- boundaries below j have their cell, and the cells from j on are as they were
-record Started (figures : List Float) (n : ℕ) (best₀ : List Float) (back₀ : List ℕ) (best : List Float) (back : List ℕ) (j : ℕ) : Type 0 where
+record Started (figures : List Float) (n : ℕ) (best₀ : List Float) (back₀ : List ℕ) (best : List Float) (back : List ℕ)
+    (j : ℕ) : Type 0 where
   bounded : j ≤ n
   valued : length best ≡ length best₀
   marked : length back ≡ length back₀
   done :
-      (q : Problem) → StartsOf q (tableAt startsAt figures) n → GapsOf q (tableAt gapsAt figures) n → (i : ℕ) → i < j → Filled best back i (rows q (marks q) 0 i)
+      (q : Problem) → StartsOf q (tableAt startsAt figures) n → GapsOf q (tableAt gapsAt figures) n → (i : ℕ) → i < j
+      → Filled best back i (rows q (marks q) 0 i)
   rest : (at : ℕ) → j ≤ at → Same best₀ back₀ best back at
 
-module _ {figures : List Float} {n : ℕ} {best₀ : List Float} {back₀ : List ℕ} {best : List Float} {back : List ℕ} {j : ℕ} (few : n ≤ mostBoundaries)
+module _ {figures : List Float} {n : ℕ} {best₀ : List Float} {back₀ : List ℕ} {best : List Float} {back : List ℕ} {j : ℕ}
+    (few : n ≤ mostBoundaries)
     (was : Started figures n best₀ back₀ best back j) (more : j < n) where
   -- what the row has at boundary j
   starts-at :
@@ -81,15 +83,20 @@ module _ {figures : List Float} {n : ℕ} {best₀ : List Float} {back₀ : List
   later-row q starts gaps h =
       next-start q j h
       ∙ rw (starts-at q starts, was .done q starts gaps (j - 1) (omega arith) .0)
-      (ap (keep higher (held (markedBy (startWay figures j)))) (carried q gaps) ∙ sym (or-keeps (startWay figures j) (gapWay best figures j)))
+      (ap (keep higher (held (markedBy (startWay figures j)))) (carried q gaps)
+      ∙ sym (or-keeps (startWay figures j) (gapWay best figures j)))
     where
       carried :
           (q : Problem) → GapsOf q (tableAt gapsAt figures) n →
-          carry (marks q .overGap (j - 1)) (held (record { value = getD best (j - 1) nan; mark = getD back (j - 1) 0 })) ≡ held (markedBy (gapWay best figures j))
-      carried q gaps = gap-from q figures best (getD back (j - 1) 0) j h (gaps (j - 1) (omega arith)) (table-at gapsAt figures (j - 1) nan (omega arith))
+          carry (marks q .overGap (j - 1)) (held (record { value = getD best (j - 1) nan; mark = getD back (j - 1) 0 }))
+          ≡ held (markedBy (gapWay best figures j))
+      carried q gaps =
+          gap-from q figures best (getD back (j - 1) 0) j h (gaps (j - 1) (omega arith)) (table-at gapsAt figures (j - 1) nan (omega arith))
 
-  module _ (b : n ≤ length best₀) (m : n ≤ length back₀) (way : Way) (value : Float) (mark : ℕ) (valued : value ≡ wayValue way) (marked : mark ≡ wayMark way)
-      (kept : (q : Problem) → StartsOf q (tableAt startsAt figures) n → GapsOf q (tableAt gapsAt figures) n → rows q (marks q) 0 j ≡ held (markedBy way)) where
+  module _ (b : n ≤ length best₀) (m : n ≤ length back₀) (way : Way) (value : Float) (mark : ℕ) (valued : value ≡ wayValue way)
+      (marked : mark ≡ wayMark way)
+      (kept : (q : Problem) → StartsOf q (tableAt startsAt figures) n → GapsOf q (tableAt gapsAt figures) n
+      → rows q (marks q) 0 j ≡ held (markedBy way)) where
     beside : (at : ℕ) → (at ≡ j → ⊥) → Same best back (set best j value) (set back j mark) at
     beside = stored-beside best back j value mark
 
@@ -123,7 +130,8 @@ kept-way c = ⊎-elim (λ w. inr (w .0 .taken, w .4 ∙ w .3 .ensures)) (λ w. i
 kept-markable : (c : tie.Joined1 Inv-loop μ-loop) → Markable (c .if1 .kept)
 unfolding startWay gapWay
 kept-markable c =
-    ⊎-elim (λ w. subst Markable (sym (w .1)) (omega arith)) (λ w. subst Markable (sym (w .1)) (or-markable _ _ (omega arith) (omega arith))) (kept-way c)
+    ⊎-elim (λ w. subst Markable (sym (w .1)) (omega arith)) (λ w. subst Markable (sym (w .1)) (or-markable _ _ (omega arith) (omega arith)))
+    (kept-way c)
 
 kept-row :
     (c : tie.Joined1 Inv-loop μ-loop) →
@@ -208,7 +216,8 @@ loop-again c =
     let start = c .before .before .before .before .before .before .before .before .before in
     let l = c .before .before .before .before .before .loop in
     turned (start .pre .2) (l .inv) (c .before .before .before .before .loop-test .taken) (start .pre .0) (start .pre .1)
-    (c .before .before .if1 .kept) (c .before .value .result) (c .mark .result) (c .before .value .ensures) (c .mark .ensures) (kept-row (c .before .before))
+    (c .before .before .if1 .kept) (c .before .value .result) (c .mark .result) (c .before .value .ensures) (c .mark .ensures)
+    (kept-row (c .before .before))
 
 same-length : tie.Need-same-length Inv-loop μ-loop
 same-length c = c .before .loop .inv .valued

@@ -80,9 +80,15 @@ module _ {back : List ℕ} {n k boundary : ℕ} {first last : List ℕ} {s j mar
       rest = unit-back .before;
       stored = record { first = mark - 3; last = j } ∷ was .stored;
       traced = subst (λ (r : ℕ). Traces (markIn back n) r (mark - 3) (unit-back .before)) row-is (unit-back .traced);
-      split = was .split ∙ ap (λ (l : List Bounds). l ++ was .stored) (unit-back .all) ∙ append-assoc (unit-back .before) (record { first = mark - 3; last = j } ∷ []) (was .stored);
-      firsts = ap (λ (l : List ℕ). set l (s - 1) (mark - 3)) (was .firsts ∙ again (firstsOf (was .stored))) ∙ store (s - 1) (mark - 3) (firstsOf (was .stored) ++ replicate (mostUnits - k) 0);
-      lasts = ap (λ (l : List ℕ). set l (s - 1) j) (was .lasts ∙ again (lastsOf (was .stored))) ∙ store (s - 1) j (lastsOf (was .stored) ++ replicate (mostUnits - k) 0);
+      split =
+          was .split ∙ ap (λ (l : List Bounds). l ++ was .stored) (unit-back .all)
+          ∙ append-assoc (unit-back .before) (record { first = mark - 3; last = j } ∷ []) (was .stored);
+      firsts =
+          ap (λ (l : List ℕ). set l (s - 1) (mark - 3)) (was .firsts ∙ again (firstsOf (was .stored)))
+          ∙ store (s - 1) (mark - 3) (firstsOf (was .stored) ++ replicate (mostUnits - k) 0);
+      lasts =
+          ap (λ (l : List ℕ). set l (s - 1) j) (was .lasts ∙ again (lastsOf (was .stored)))
+          ∙ store (s - 1) j (lastsOf (was .stored) ++ replicate (mostUnits - k) 0);
       row = omega (arith, was .row);
       place = omega (arith, was .place, unit-back .lower);
       reads = refl;
@@ -91,7 +97,8 @@ module _ {back : List ℕ} {n k boundary : ℕ} {first last : List ℕ} {s j mar
         row-is : unit-back .row ≡ s - 1
         row-is = omega (arith, unit-back .isRow)
 
-        again : (l : List ℕ) → replicate s 0 ++ (l ++ replicate (mostUnits - k) 0) ≡ replicate (suc (s - 1)) 0 ++ (l ++ replicate (mostUnits - k) 0)
+        again : (l : List ℕ)
+            → replicate s 0 ++ (l ++ replicate (mostUnits - k) 0) ≡ replicate (suc (s - 1)) 0 ++ (l ++ replicate (mostUnits - k) 0)
         again l =
             let is : s ≡ suc (s - 1) = omega (arith, unit-back .isRow) in
             ap (λ (r : ℕ). replicate r 0 ++ (l ++ replicate (mostUnits - k) 0)) is
@@ -102,11 +109,16 @@ module _ {back : List ℕ} {n k boundary : ℕ} {first last : List ℕ} {s j mar
       let done = trace-start (was .traced) (sym (was .reads) ∙ e) in
       (done .0, was .split ∙ ap (λ (l : List Bounds). l ++ was .stored) (done .1))
 
-  arrays : mark ≡ 1 → (units : List Bounds) → Traces (markIn back n) k boundary units → UnitsAre (record { first = first; last = last }) units
+  arrays : mark ≡ 1 → (units : List Bounds) → Traces (markIn back n) k boundary units
+      → UnitsAre (record { first = first; last = last }) units
   arrays e units traces = record {
-    firsts = was .firsts ∙ ap₂ (λ (z : ℕ) (us : List Bounds). replicate z 0 ++ (firstsOf us ++ replicate (mostUnits - k) 0)) (whole-stored e .0) same
+    firsts =
+        was .firsts ∙ ap₂ (λ (z : ℕ) (us : List Bounds). replicate z 0 ++ (firstsOf us ++ replicate (mostUnits - k) 0))
+        (whole-stored e .0) same
         ∙ ap (λ (m : ℕ). firstsOf units ++ replicate (mostUnits - m) 0) (counted (λ (unit : Bounds). unit .first));
-    lasts = was .lasts ∙ ap₂ (λ (z : ℕ) (us : List Bounds). replicate z 0 ++ (lastsOf us ++ replicate (mostUnits - k) 0)) (whole-stored e .0) same
+    lasts =
+        was .lasts ∙ ap₂ (λ (z : ℕ) (us : List Bounds). replicate z 0 ++ (lastsOf us ++ replicate (mostUnits - k) 0))
+        (whole-stored e .0) same
         ∙ ap (λ (m : ℕ). lastsOf units ++ replicate (mostUnits - m) 0) (counted (λ (unit : Bounds). unit .last));
   }
     where
@@ -124,12 +136,15 @@ abbrev μ-loop : tie.MeasureT-loop
 
 -- the cell that is read first, and that after a turn
 enters : (c : tie.Start Inv-loop μ-loop) → c .args .k * c .args .n + c .args .boundary < length (c .args .back .now)
-enters c = in-rows (c .args .n) (c .args .k) (c .args .k) (c .args .boundary) (length (c .args .back .now)) (omega arith) (c .pre .0 .3) (c .pre .0 .2)
+enters c =
+    in-rows (c .args .n) (c .args .k) (c .args .k) (c .args .boundary) (length (c .args .back .now)) (omega arith) (c .pre .0 .3)
+    (c .pre .0 .2)
 
 turned :
     (c : tie.Joined1 Inv-loop μ-loop) → let a = c .before .before .before .before .args in
     (c .if1 .j < c .before .before .loop .j)
-    × Tracing (a .back .now) (a .n) (a .k) (a .boundary) (c .if1 .first) (c .if1 .last) (c .if1 .s) (c .if1 .j) (markIn (a .back .now) (a .n) (c .if1 .s) (c .if1 .j))
+    × Tracing (a .back .now) (a .n) (a .k) (a .boundary) (c .if1 .first) (c .if1 .last) (c .if1 .s) (c .if1 .j)
+    (markIn (a .back .now) (a .n) (c .if1 .s) (c .if1 .j))
 turned c =
     let was = c .before .before .loop .inv in
     let on = c .before .loop-test .taken in
@@ -143,7 +158,8 @@ reads-on :
     c .if1 .s * a .n + c .if1 .j < length (a .back .now)
 reads-on c =
     let start = c .before .before .before .before in
-    in-rows (start .args .n) (start .args .k) (c .if1 .s) (c .if1 .j) (length (start .args .back .now)) (turned c .1 .row) (turned c .1 .place) (start .pre .0 .2)
+    in-rows (start .args .n) (start .args .k) (c .if1 .s) (c .if1 .j) (length (start .args .back .now)) (turned c .1 .row)
+    (turned c .1 .place) (start .pre .0 .2)
 
 within : (c : tie.Else1 Inv-loop μ-loop) → c .before .before .loop .s - 1 < mostUnits
 within c =
@@ -205,7 +221,12 @@ sub-j-2 : tie.Need-sub-j-2 Inv-loop μ-loop
 sub-j-2 c = unit-mark (c .before .before .loop .inv) (c .before .loop-test .taken) (c .if1 .left)
 
 cast-j : tie.Need-cast-j Inv-loop μ-loop
-cast-j c = omega (arith, united-back (c .before .before .loop .inv) (c .before .loop-test .taken) (c .if1 .left) .place, c .before .before .before .before .pre .0 .1)
+cast-j c =
+    omega (
+      arith,
+      united-back (c .before .before .loop .inv) (c .before .loop-test .taken) (c .if1 .left) .place,
+      c .before .before .before .before .pre .0 .1,
+    )
 
 mul-mark-3 : tie.Need-mul-mark-3 Inv-loop μ-loop
 mul-mark-3 c = omega (arith, reads-on (c .before))

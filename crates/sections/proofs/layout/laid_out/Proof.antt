@@ -14,10 +14,10 @@ placed-requires-3 : tie.Need-placed-requires-3
 placed-requires-3 c κs = c .before .before .pre .boundaries
 
 placed-requires-4 : tie.Need-placed-requires-4
-placed-requires-4 c κs = c .before .before .before .pre .anchors
+placed-requires-4 c κs = c .before .before .before .pre .addedAnchors
 
 placed-requires-5 : tie.Need-placed-requires-5
-placed-requires-5 c κs = c .before .before .before .before .pre .added
+placed-requires-5 c κs = c .before .before .before .before .pre .addedBoundaries
 
 placed-requires-6 : tie.Need-placed-requires-6
 placed-requires-6 c κs = c .before .before .before .before .before .pre .scores

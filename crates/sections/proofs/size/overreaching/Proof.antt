@@ -63,7 +63,7 @@ outside-requires-3 c κs = tt
 mul-outside-3 : tie.Need-mul-outside-3
 mul-outside-3 c =
     let start = c .before .before .before .before .before .before .before .before .before .before in
-    list-fits (start .pre .1 .anchors) (le-trans (start .pre .0 .anchors) (lit≤ tt))
+    list-fits (start .pre .1 .addedAnchors) (le-trans (start .pre .0 .anchors) (lit≤ tt))
 
 outside-requires-4 : tie.Need-outside-requires-4
 outside-requires-4 c κs = tt
@@ -71,7 +71,7 @@ outside-requires-4 c κs = tt
 mul-outside-4 : tie.Need-mul-outside-4
 mul-outside-4 c =
     let start = c .before .before .before .before .before .before .before .before .before .before .before .before in
-    list-fits (start .pre .1 .added) (le-trans (start .pre .0 .boundaries) (lit≤ tt))
+    list-fits (start .pre .1 .addedBoundaries) (le-trans (start .pre .0 .boundaries) (lit≤ tt))
 
 outside-requires-5 : tie.Need-outside-requires-5
 outside-requires-5 c κs = tt

@@ -7,7 +7,8 @@ use lib.ListN.{length, length-set}
 use borrow.Author.Needs.{needs}
 use Rattle.frames.specs.Frames.{lowestFrom}
 use Rattle.limits.specs.Common.{lastFrame}
-use Rattle.spans.specs.Spans.{spanOf, spansOf, wordsOf, Writable}
+use Rattle.spans.specs.Spans.{spanOf, spansOf, wordsOf}
+use Rattle.spans.specs.inner.Room.{Writable}
 use Rattle.frames.specs.declared.span.Span.{Span}
 use Rattle.frames.specs.declared.list.Nearest.the-variants.{None, At}
 use Rattle.frames.proofs.Checks.{within}

@@ -17,7 +17,8 @@ use Rattle.stages.proofs.anchors.keep_anchors.Tie as tie
 
 abbrev Inv-loop : tie.InvT-loop
 Inv-loop mask anchors first-row frames₀ rows₀ count₀ i₀ frames rows count i =
-    (i ≤ length anchors) × (count ≤ i) × Keeps (keptIn mask first-row (take i anchors)) count frames rows × (length frames ≡ anchorRoom) × (length rows ≡ anchorRoom)
+    (i ≤ length anchors) × (count ≤ i) × Keeps (keptIn mask first-row (take i anchors)) count frames rows × (length frames ≡ anchorRoom)
+    × (length rows ≡ anchorRoom)
 
 abbrev μ-loop : tie.MeasureT-loop
 μ-loop mask anchors first-row frames₀ rows₀ count₀ i₀ frames rows count i = length anchors - i
@@ -82,7 +83,8 @@ loop-again c =
       omega arith,
       omega arith,
       subst₃ (λ (n : ℕ) (frames rows : List ℕ). Keeps kept n frames rows) (sym (w .3)) (sym (w .1)) (sym (w .2))
-          (keeps-it mask first anchors (l .i) more (l .count) (l .frames) (l .rows) (l .inv .2) (omega arith) (sym (c .before .within .ensures) ∙ w .0 .taken)),
+          (keeps-it mask first anchors (l .i) more (l .count) (l .frames) (l .rows) (l .inv .2) (omega arith)
+          (sym (c .before .within .ensures) ∙ w .0 .taken)),
       ap length (w .1) ∙ length-set (l .frames) (l .count) _ ∙ l .inv .3,
       ap length (w .2) ∙ length-set (l .rows) (l .count) _ ∙ l .inv .4,
     ))
@@ -90,17 +92,22 @@ loop-again c =
       omega arith,
       omega arith,
       subst₃ (λ (n : ℕ) (frames rows : List ℕ). Keeps kept n frames rows) (sym (w .3)) (sym (w .1)) (sym (w .2))
-          (drops-it mask first anchors (l .i) more (l .count) (l .frames) (l .rows) (l .inv .2) (sym (c .before .within .ensures) ∙ w .0 .left)),
+          (drops-it mask first anchors (l .i) more (l .count) (l .frames) (l .rows) (l .inv .2)
+          (sym (c .before .within .ensures) ∙ w .0 .left)),
       ap length (w .1) ∙ l .inv .3,
       ap length (w .2) ∙ l .inv .4,
     ))
     (c .if1 .came)
 
 same-length : tie.Need-same-length Inv-loop μ-loop
-same-length c = c .before .loop .inv .3 ∙ sym (ap length (c .before .before .before .before .before .before .pre .1 .0) ∙ length-replicate {A = ℕ} anchorRoom absent)
+same-length c =
+    c .before .loop .inv .3
+    ∙ sym (ap length (c .before .before .before .before .before .before .pre .1 .0) ∙ length-replicate {A = ℕ} anchorRoom absent)
 
 same-length-2 : tie.Need-same-length-2 Inv-loop μ-loop
-same-length-2 c = c .before .loop .inv .4 ∙ sym (ap length (c .before .before .before .before .before .before .pre .1 .1) ∙ length-replicate {A = ℕ} anchorRoom 0)
+same-length-2 c =
+    c .before .loop .inv .4
+    ∙ sym (ap length (c .before .before .before .before .before .before .pre .1 .1) ∙ length-replicate {A = ℕ} anchorRoom 0)
 
 returns : tie.Need-returns Inv-loop μ-loop
 returns c =

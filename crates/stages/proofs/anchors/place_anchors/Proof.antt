@@ -4,7 +4,7 @@ use mathlib.Core.Path.{ap, _∙_}
 use native.Mathlib.Omega.{arith}
 use lib.ListN.{length, length-replicate}
 use Rattle.laws.proofs.Listed.{written-table}
-use Rattle.laws.specs.Listed.{written}
+use Rattle.laws.specs.inner.Tables.{written}
 use Rattle.paths.specs.Anchors.{keptIn}
 use Rattle.limits.specs.Capacity.{mostEdges}
 use Rattle.stages.specs.Places.{placeBefore}
@@ -23,7 +23,11 @@ place-boundaries-requires : tie.Need-place-boundaries-requires
 place-boundaries-requires c κs =
     let start = c .before .before .before .before .before .before .before .before .before .before .before .before .before .before .before in
     let kept = c .before .before .before .before .before .before .keep-anchors .ensures in (
-      (array-climbs (orderly start) (kept .framed), array-ends (orderly start) (kept .framed), omega (arith, array-long (orderly start) (kept .framed))),
+      (
+        array-climbs (orderly start) (kept .framed),
+        array-ends (orderly start) (kept .framed),
+        omega (arith, array-long (orderly start) (kept .framed)),
+      ),
       (
         omega (arith, ap length (start .pre .1 .2) ∙ length-replicate {A = ℕ} mostEdges 0, start .pre .0 .0 .listed .short),
         start .pre .0 .0 .listed .ascending,
@@ -41,13 +45,16 @@ same-length-3 c = search needs
 
 returns : tie.Need-returns
 returns c =
-    let start = c .before .before .before .before .before .before .before .before .before .before .before .before .before .before .before .before .before .before in
+    let start =
+    c .before .before .before .before .before .before .before .before .before .before .before .before .before .before .before .before .before .before in
     let keeping = c .before .before .before .before .before .before .before .before .before .keep-anchors in
     let bounds = start .args .bounds .now in
     let place = placeBefore (keeping .last .1 .1 .1 .0) bounds in record {
       framed = keeping .ensures .framed;
       rowed = keeping .ensures .rowed;
-      placed = c .before .before .place-boundaries .ensures ∙ ap (written place (length bounds + 1)) (start .pre .1 .2) ∙ written-table place (length bounds + 1) mostEdges 0;
+      placed =
+          c .before .before .place-boundaries .ensures ∙ ap (written place (length bounds + 1)) (start .pre .1 .2)
+          ∙ written-table place (length bounds + 1) mostEdges 0;
     }
 
 pub place-anchors-spec : {M : Type 1} → statement M

@@ -35,14 +35,22 @@ advance-requires c κs =
     let l = c .before .before .loop in (
       start .pre .0 .0,
       rw (edge-in bounds absent (l .j) (omega arith)) at (l .inv .2),
-      omega (arith, below-mono (start .args .frames .now) (getD bounds (l .j) 0) absent (omega (arith, c .shared-slice-known3 .given (l .j)))),
+      omega (
+        arith,
+        below-mono (start .args .frames .now) (getD bounds (l .j) 0) absent (omega (arith, c .shared-slice-known3 .given (l .j))),
+      ),
     )
 
 cast-places : tie.Need-cast-places Inv-loop μ-loop
 cast-places c =
     let start = c .before .before .before .before .before .before .before in
     let bound = getD (start .args .bounds .now) (c .before .before .before .loop .j) 0 in
-    omega (arith, c .advance .ensures, below-mono (start .args .frames .now) bound absent (omega (arith, c .before .shared-slice-known3 .given (c .before .before .before .loop .j))))
+    omega (
+      arith,
+      c .advance .ensures,
+      below-mono (start .args .frames .now) bound absent
+          (omega (arith, c .before .shared-slice-known3 .given (c .before .before .before .loop .j))),
+    )
 
 mul-places : tie.Need-mul-places Inv-loop μ-loop
 mul-places c = omega arith
@@ -67,7 +75,8 @@ loop-again c =
       omega arith,
       rw (c .advance .ensures)
           (below-mono frames (getD bounds (l .j) 0) (edge bounds absent (l .j + 1))
-          (edge-ascends bounds absent (start .pre .1 .1) (l .j) (omega arith) (omega (arith, c .before .shared-slice-known3 .given (l .j))))),
+          (edge-ascends bounds absent (start .pre .1 .1) (l .j) (omega arith)
+          (omega (arith, c .before .shared-slice-known3 .given (l .j))))),
     )
 
 advance-requires-2 : tie.Need-advance-requires-2 Inv-loop μ-loop
@@ -91,13 +100,15 @@ slice-write-places-2 c = omega arith
 done : (c : tie.After-advance2 Inv-loop μ-loop) →
     let args = c .before .before .before .before .before .before .args in
     let l = c .before .before .loop in
-    Filling (placeBefore (args .frames .now) (args .bounds .now)) (length (args .bounds .now) + 1) (args .places .now) (set (l .places) (l .j) (c .advance2 .result)) (l .j + 1)
+    Filling (placeBefore (args .frames .now) (args .bounds .now)) (length (args .bounds .now) + 1) (args .places .now)
+    (set (l .places) (l .j) (c .advance2 .result)) (l .j + 1)
 done c =
     let frames = c .before .before .before .before .before .before .args .frames .now in
     let bounds = c .before .before .before .before .before .before .args .bounds .now in
     let l = c .before .before .loop in
     let e : l .j ≡ length bounds = omega arith in
-    filling-more (l .inv .0) (omega arith) (c .advance2 .ensures ∙ ap (countBelow frames) (sym (ap (λ (j : ℕ). edge bounds absent j) e ∙ edge-end bounds absent)))
+    filling-more (l .inv .0) (omega arith)
+    (c .advance2 .ensures ∙ ap (countBelow frames) (sym (ap (λ (j : ℕ). edge bounds absent j) e ∙ edge-end bounds absent)))
 
 same-length : tie.Need-same-length Inv-loop μ-loop
 same-length c = done c .long

@@ -25,20 +25,27 @@ abbrev μ-loop : tie.MeasureT-loop
 
 counted : (c : tie.After-speech-in Inv-loop μ-loop)
     → c .before .before .before .loop .count + c .speech-in .result
-    ≡ speechIn (c .before .before .before .before .before .before .before .args .mask .now) 0 (getD (c .before .before .before .before .before .before .before .args .bounds .now) (c .before .before .before .loop .j) 0)
+    ≡ speechIn (c .before .before .before .before .before .before .before .args .mask .now) 0
+    (getD (c .before .before .before .before .before .before .before .args .bounds .now) (c .before .before .before .loop .j) 0)
 counted c =
     let l = c .before .before .before .loop in
-    speech-on (c .before .before .before .before .before .before .before .args .mask .now) (l .from) _ (l .inv .2) (c .speech-in .ensures) (omega (arith, l .inv .3 (omega arith)))
+    speech-on (c .before .before .before .before .before .before .before .args .mask .now) (l .from) _ (l .inv .2) (c .speech-in .ensures)
+    (omega (arith, l .inv .3 (omega arith)))
 
 counted-all : (c : tie.After-speech-in2 Inv-loop μ-loop)
-    → c .before .before .loop .count + c .speech-in2 .result ≡ speechIn (c .before .before .before .before .before .before .args .mask .now) 0 (length (c .before .before .before .before .before .before .args .mask .now))
-counted-all c = speech-on (c .before .before .before .before .before .before .args .mask .now) (c .before .before .loop .from) _ (c .before .before .loop .inv .2) (c .speech-in2 .ensures) (omega arith)
+    → c .before .before .loop .count + c .speech-in2 .result
+    ≡ speechIn (c .before .before .before .before .before .before .args .mask .now) 0
+    (length (c .before .before .before .before .before .before .args .mask .now))
+counted-all c =
+    speech-on (c .before .before .before .before .before .before .args .mask .now) (c .before .before .loop .from) _
+    (c .before .before .loop .inv .2) (c .speech-in2 .ensures) (omega arith)
 
 -- the last count is that up to the mask's end
 done : (c : tie.After-speech-in2 Inv-loop μ-loop) →
     let args = c .before .before .before .before .before .before .args in
     let l = c .before .before .loop in
-    Filling (speechBefore (args .mask .now) (args .bounds .now)) (length (args .bounds .now) + 1) (args .counts .now) (set (l .counts) (l .j) (l .count + c .speech-in2 .result)) (l .j + 1)
+    Filling (speechBefore (args .mask .now) (args .bounds .now)) (length (args .bounds .now) + 1) (args .counts .now)
+    (set (l .counts) (l .j) (l .count + c .speech-in2 .result)) (l .j + 1)
 done c =
     let mask = c .before .before .before .before .before .before .args .mask .now in
     let bounds = c .before .before .before .before .before .before .args .bounds .now in

@@ -13,7 +13,8 @@ use Rattle.stages.proofs.counts.speech_in.Tie as tie
 
 abbrev Inv-loop : tie.InvT-loop
 Inv-loop mask from to end at₀ count₀ at count =
-    (at₀ ≡ min from (length mask)) × (end ≡ min to (length mask)) × (at₀ ≤ at) × (at ≤ max at₀ end) × (count ≡ speechFrom mask at₀ (at - at₀))
+    (at₀ ≡ min from (length mask)) × (end ≡ min to (length mask)) × (at₀ ≤ at) × (at ≤ max at₀ end)
+    × (count ≡ speechFrom mask at₀ (at - at₀))
 
 abbrev μ-loop : tie.MeasureT-loop
 μ-loop mask from to end at₀ count₀ at count = end - at
@@ -61,7 +62,8 @@ loop-again c =
       l .inv .1,
       omega arith,
       omega arith,
-      ap₂ _+_ (l .inv .4) (c .weight .ensures) ∙ sym (from-next mask (c .before .before .before .before .clamped2 .result) (l .at) (l .inv .2)),
+      ap₂ _+_ (l .inv .4) (c .weight .ensures)
+          ∙ sym (from-next mask (c .before .before .before .before .clamped2 .result) (l .at) (l .inv .2)),
     )
 
 returns : tie.Need-returns Inv-loop μ-loop
@@ -69,7 +71,8 @@ unfolding speechIn
 returns c =
     let mask = c .before .before .before .before .before .args .mask .now in
     let l = c .before .loop in
-    let e : l .at - c .before .before .clamped2 .result ≡ c .before .before .before .clamped .result - c .before .before .clamped2 .result = omega arith in
+    let e : l .at - c .before .before .clamped2 .result ≡ c .before .before .before .clamped .result - c .before .before .clamped2 .result =
+    omega arith in
     l .inv .4 ∙ ap (speechFrom mask (c .before .before .clamped2 .result)) e
     ∙ ap₂ (λ (from to : ℕ). speechFrom mask from (to - from)) (l .inv .0) (l .inv .1)
 

@@ -6,7 +6,7 @@ use native.Mathlib.Omega.{arith}
 use lib.ListN.{getD}
 use lib.Ieee.{Float}
 use borrow.Rule.Slice.PartMut.{putMid}
-use Rattle.laws.specs.Listed.{tableOf}
+use Rattle.laws.specs.inner.Tables.{tableOf}
 use Rattle.limits.specs.Capacity.{mostBoundaries}
 use Rattle.stages.specs.Lists.{startsAt, gapsAt}
 use Rattle.stages.specs.Filler.{startAt, stretch, noCost}
@@ -26,7 +26,8 @@ stop-of c j = stretch (c .args .costs) (c .args .speech .now) (c .args .nuclei .
 
 abbrev tables : tie.Start → ℕ → List Float
 tables c j =
-    getD (tableOf (start-of c) (c .args .n) mostBoundaries noCost ∷ tableOf (gap-of c) (c .args .n) mostBoundaries noCost ∷ tableOf (stop-of c) (c .args .n) mostBoundaries noCost ∷ []) j []
+    getD (tableOf (start-of c) (c .args .n) mostBoundaries noCost ∷ tableOf (gap-of c) (c .args .n) mostBoundaries noCost ∷ tableOf
+    (stop-of c) (c .args .n) mostBoundaries noCost ∷ []) j []
 
 clear-figures-requires : tie.Need-clear-figures-requires
 clear-figures-requires c κs = search needs

@@ -4,7 +4,7 @@ use mathlib.Core.Path.{_≡_, refl, _∙_}
 use native.Mathlib.Omega.{arith}
 use lib.ListN.{length, length-replicate}
 use Rattle.laws.proofs.Listed.{written-table}
-use Rattle.laws.specs.Listed.{tableOf}
+use Rattle.laws.specs.inner.Tables.{tableOf}
 use Rattle.paths.specs.Anchors.{keptIn}
 use Rattle.limits.specs.Capacity.{mostEdges}
 use Rattle.stages.specs.Edges.{speechBefore}
@@ -36,7 +36,8 @@ placed c = c .before .before .before .before .before
 
 placing : (c : tie.After-place-anchors) →
     let args = entry c .args in
-    Placing (args .mask .now) (keptIn (args .mask .now) 0 (args .nuclei .now)) (c .place-anchors .last .1 .1 .1 .1 .0) (args .bounds .now) (c .place-anchors .last .1 .1 .1 .1 .1 .1 .0)
+    Placing (args .mask .now) (keptIn (args .mask .now) 0 (args .nuclei .now)) (c .place-anchors .last .1 .1 .1 .1 .0) (args .bounds .now)
+    (c .place-anchors .last .1 .1 .1 .1 .1 .1 .0)
 placing c =
     let start = entry c in record {
       orderly = kept-orderly (start .args .mask .now) 0 (start .args .nuclei .now) (start .pre .0 .framed) (start .pre .1);
@@ -56,10 +57,12 @@ count-speech-requires c κs =
 
 counted : (c : tie.After-count-speech) →
     let args = entry (placed c) .args in
-    c .count-speech .last .1 .1 .0 ≡ tableOf (speechBefore (args .mask .now) (args .bounds .now)) (length (args .bounds .now) + 1) mostEdges 0
+    c .count-speech .last .1 .1 .0
+    ≡ tableOf (speechBefore (args .mask .now) (args .bounds .now)) (length (args .bounds .now) + 1) mostEdges 0
 counted c =
     let args = entry (placed c) .args in
-    c .count-speech .ensures ∙ written-table (speechBefore (args .mask .now) (args .bounds .now)) (length (args .bounds .now) + 1) mostEdges 0
+    c .count-speech .ensures
+    ∙ written-table (speechBefore (args .mask .now) (args .bounds .now)) (length (args .bounds .now) + 1) mostEdges 0
 
 slice-aggregate-lay-costs : tie.Need-slice-aggregate-lay-costs
 slice-aggregate-lay-costs c = search needs

@@ -22,13 +22,17 @@ mul-cost : tie.Need-mul-cost Inv-loop μ-loop
 mul-cost c = omega arith
 
 shared-slice-read-cost : tie.Need-shared-slice-read-cost Inv-loop μ-loop
-shared-slice-read-cost c = c .before .before .before .before .before .before .pre .0 .0 (c .before .before .loop .j) (c .before .before .loop .j) (omega arith) (omega arith) .lower
+shared-slice-read-cost c =
+    c .before .before .before .before .before .before .pre .0 .0 (c .before .before .loop .j) (c .before .before .loop .j) (omega arith)
+    (omega arith) .lower
 
 mul-cost-2 : tie.Need-mul-cost-2 Inv-loop μ-loop
 mul-cost-2 c = omega arith
 
 shared-slice-read-cost-2 : tie.Need-shared-slice-read-cost-2 Inv-loop μ-loop
-shared-slice-read-cost-2 c = c .before .before .before .before .before .before .before .pre .0 .1 (c .before .before .before .loop .j) (c .before .before .before .loop .j) (omega arith) (omega arith) .lower
+shared-slice-read-cost-2 c =
+    c .before .before .before .before .before .before .before .pre .0 .1 (c .before .before .before .loop .j)
+    (c .before .before .before .loop .j) (omega arith) (omega arith) .lower
 
 cost-requires : tie.Need-cost-requires Inv-loop μ-loop
 cost-requires c κs = search needs

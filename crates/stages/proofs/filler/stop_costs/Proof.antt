@@ -18,8 +18,10 @@ loop-holds c = filling-none (c .before .before .before .pre .1)
 stretch-cost-requires : tie.Need-stretch-cost-requires Inv-loop μ-loop
 stretch-cost-requires c κs =
     let start = c .before .before .before .before .before in
-    let j = c .before .loop .j in
-    (start .pre .0 .0 j (c .before .before .before .before .before .args .n) (omega arith) (omega arith), start .pre .0 .1 j (c .before .before .before .before .before .args .n) (omega arith) (omega arith))
+    let j = c .before .loop .j in (
+      start .pre .0 .0 j (c .before .before .before .before .before .args .n) (omega arith) (omega arith),
+      start .pre .0 .1 j (c .before .before .before .before .before .args .n) (omega arith) (omega arith),
+    )
 
 mul-out : tie.Need-mul-out Inv-loop μ-loop
 mul-out c = omega arith

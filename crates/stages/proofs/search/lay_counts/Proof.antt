@@ -6,7 +6,8 @@ use native.Mathlib.Omega.{arith}
 use lib.ListN.{length, take, drop, length-drop}
 use lib.Seq.{length-take-le}
 use borrow.Rule.Slice.PartMut.{putMid, same-len-mid}
-use Rattle.laws.specs.Listed.{listed, written}
+use Rattle.laws.specs.Listed.{listed}
+use Rattle.laws.specs.inner.Tables.{written}
 use Rattle.paths.specs.inner.Ranges.{firstReached}
 use Rattle.limits.specs.Capacity.{mostBoundaries, unitCounts}
 use Rattle.stages.specs.Lists.{lowsAt, middlesAt, highsAt, sinceStrictAt, sinceRelaxedAt, wordsLong, tableAt, countsAt}
@@ -26,7 +27,8 @@ abbrev first : tie.After-copy2 → tie.After-copy
 first c = c .before .before .before .before .before .before .before .before .before .before .before
 
 -- what is copied into a part with an entry for each count, of a list that holds counts
-copied-counts : (words : List ℕ) (ends n : ℕ) (part : List ℕ) {since out : List ℕ} → since ≡ reachedBy words ends n → length part ≡ unitCounts
+copied-counts : (words : List ℕ) (ends n : ℕ) (part : List ℕ) {since out : List ℕ} → since ≡ reachedBy words ends n
+    → length part ≡ unitCounts
     → out ≡ written (entryOf since) (length since) part → out ≡ reachedBy words ends n
 copied-counts words ends n part {since} found long copied =
     copied ∙ written-whole since part (long ∙ sym (ap length found ∙ counts-long words ends n)) ∙ found
@@ -49,24 +51,31 @@ once-long c =
     let start = entry c in
     let words = start .args .words .now in
     same-len-mid sinceStrictAt unitCounts words (c .copy .last .1 .0)
-    (ap length (strict-laid c) ∙ counts-long words middlesAt (start .args .n) ∙ sym (part-long words sinceStrictAt (start .pre .3) (omega arith)))
+    (ap length (strict-laid c) ∙ counts-long words middlesAt (start .args .n)
+    ∙ sym (part-long words sinceStrictAt (start .pre .3) (omega arith)))
     ∙ start .pre .3
 
 -- tables before the counts stay
-once-before : (c : tie.After-copy) (at : ℕ) → at + mostBoundaries ≤ sinceStrictAt → tableAt at (once c) ≡ tableAt at (entry c .args .words .now)
+once-before : (c : tie.After-copy) (at : ℕ) → at + mostBoundaries ≤ sinceStrictAt
+    → tableAt at (once c) ≡ tableAt at (entry c .args .words .now)
 once-before c at h =
-    put-before sinceStrictAt unitCounts at mostBoundaries (entry c .args .words .now) (c .copy .last .1 .0) h (omega (arith, entry c .pre .3))
+    put-before sinceStrictAt unitCounts at mostBoundaries (entry c .args .words .now) (c .copy .last .1 .0) h
+    (omega (arith, entry c .pre .3))
 
-relaxed-laid : (c : tie.After-copy2) → c .copy2 .last .1 .0 ≡ reachedBy (entry (first c) .args .words .now) highsAt (entry (first c) .args .n)
+relaxed-laid : (c : tie.After-copy2)
+    → c .copy2 .last .1 .0 ≡ reachedBy (entry (first c) .args .words .now) highsAt (entry (first c) .args .n)
 relaxed-laid c =
     let start = entry (first c) in
     let words = once (first c) in
     let n = start .args .n in
-    let room = ap length (first c .before .before .before .before .lay-since .ensures) ∙ counts-long (start .args .words .now) middlesAt n in
+    let room =
+    ap length (first c .before .before .before .before .lay-since .ensures) ∙ counts-long (start .args .words .now) middlesAt n in
     let reached = firstReached (entryOf (tableAt lowsAt words)) (entryOf (tableAt highsAt words)) n in
-    copied-counts words highsAt n (countsAt sinceRelaxedAt words) (c .before .before .before .before .lay-since2 .ensures ∙ ap (listed reached) room)
+    copied-counts words highsAt n (countsAt sinceRelaxedAt words)
+    (c .before .before .before .before .lay-since2 .ensures ∙ ap (listed reached) room)
     (part-long words sinceRelaxedAt (once-long (first c)) (omega arith)) (c .copy2 .ensures)
-    ∙ counts-same words (start .args .words .now) highsAt n (once-before (first c) lowsAt (omega arith)) (once-before (first c) highsAt (omega arith))
+    ∙ counts-same words (start .args .words .now) highsAt n (once-before (first c) lowsAt (omega arith))
+    (once-before (first c) highsAt (omega arith))
 
 sub-lay-since : tie.Need-sub-lay-since
 sub-lay-since c = search needs

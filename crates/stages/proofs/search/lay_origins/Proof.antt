@@ -68,7 +68,8 @@ returns c =
     (λ j h.
     let next : 1 + place j ≡ place j + 1 = omega arith in
     ap (λ (l : List ℕ). entryOf l j) (second .pick2 .ensures)
-    ∙ written-at (λ i. entryOf rest (place i)) n (replicate mostBoundaries 0) 0 j h ∙ rest-at 1 frames (place j) 0 ∙ ap (entryOf frames) next)
+    ∙ written-at (λ i. entryOf rest (place i)) n (replicate mostBoundaries 0) 0 j h ∙ rest-at 1 frames (place j) 0
+    ∙ ap (entryOf frames) next)
     (c .before .before .lay-ranges .ensures)
 
 pub lay-origins-spec : {M : Type 1} → statement M

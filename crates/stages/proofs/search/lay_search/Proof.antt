@@ -6,7 +6,7 @@ use native.Mathlib.Omega.{arith}
 use lib.ListN.{length, take, drop, replicate}
 use borrow.Rule.Slice.PartMut.{putMid}
 use Rattle.laws.proofs.Listed.{written-table, length-table}
-use Rattle.laws.specs.Listed.{tableOf, written}
+use Rattle.laws.specs.inner.Tables.{tableOf, written}
 use Rattle.limits.specs.Capacity.{mostBoundaries}
 use Rattle.stages.specs.Lists.{boundsAt, lowsAt, rowsAt, spanStartsAt, wordsLong, originsLong, spansLong, lowsIn, middlesIn, highsIn, tableAt}
 use Rattle.stages.specs.Ranges.{entryOf}
@@ -38,7 +38,8 @@ cleared : (c : tie.After-clear-words) → Fresh 0 wordsLong boundsAt (c .clear-w
 cleared c = fresh-all (c .clear-words .ensures ∙ ap (λ (n : ℕ). replicate n 0) (entry c .pre .3))
 
 -- what is written over a part that is 0
-over-spare : (f : ℕ → ℕ) (n : ℕ) {part out : List ℕ} → part ≡ replicate mostBoundaries 0 → out ≡ written f n part → out ≡ tableOf f n mostBoundaries 0
+over-spare : (f : ℕ → ℕ) (n : ℕ) {part out : List ℕ} → part ≡ replicate mostBoundaries 0 → out ≡ written f n part
+    → out ≡ tableOf f n mostBoundaries 0
 over-spare f n spare laid = laid ∙ ap (written f n) spare ∙ written-table f n mostBoundaries 0
 
 bounds-laid : (c : tie.After-copy) →
@@ -46,7 +47,8 @@ bounds-laid : (c : tie.After-copy) →
     c .copy .last .1 .0 ≡ tableOf (entryOf bounds) (length bounds) mostBoundaries 0
 bounds-laid c =
     let bounds = entry (clearing c) .args .bounds .now in
-    over-spare (entryOf bounds) (length bounds) (cleared (clearing c) .rest boundsAt mostBoundaries (omega arith) (omega arith)) (c .copy .ensures)
+    over-spare (entryOf bounds) (length bounds) (cleared (clearing c) .rest boundsAt mostBoundaries (omega arith) (omega arith))
+    (c .copy .ensures)
 
 bounds-long : (c : tie.After-copy) → length (c .copy .last .1 .0) ≡ mostBoundaries
 bounds-long c =
@@ -64,7 +66,8 @@ abbrev with-origins : tie.After-lay-origins → List ℕ
 with-origins c = putMid lowsAt originsLong (with-bounds (copying c)) (c .lay-origins .last .1 .1 .1 .0)
 
 fresh-rows : (c : tie.After-lay-origins) → Fresh 0 wordsLong rowsAt (with-origins c)
-fresh-rows c = fresh-next originsLong (c .lay-origins .last .1 .1 .1 .0) (fresh-origins (copying c)) (c .lay-origins .ensures .whole) (omega arith)
+fresh-rows c =
+    fresh-next originsLong (c .lay-origins .last .1 .1 .1 .0) (fresh-origins (copying c)) (c .lay-origins .ensures .whole) (omega arith)
 
 abbrev row-of : tie.Start → ℕ → ℕ
 row-of c j = entryBefore (c .args .rows .now) (entryOf (c .args .places .now) j)
@@ -74,7 +77,8 @@ rows-laid : (c : tie.After-pick-before) →
     c .pick-before .last .1 .1 .1 .0 ≡ tableOf (row-of start) (length (start .args .bounds .now)) mostBoundaries 0
 rows-laid c =
     let start = start-of c in
-    over-spare (row-of start) (length (start .args .bounds .now)) (fresh-rows (ranging c) .rest rowsAt mostBoundaries (omega arith) (omega arith))
+    over-spare (row-of start) (length (start .args .bounds .now))
+    (fresh-rows (ranging c) .rest rowsAt mostBoundaries (omega arith) (omega arith))
     (c .pick-before .ensures)
 
 rows-long : (c : tie.After-pick-before) → length (c .pick-before .last .1 .1 .1 .0) ≡ mostBoundaries
@@ -95,7 +99,8 @@ bounds-part : (c : tie.After-pick-before) →
 bounds-part c =
     let ranged = ranging c in
     let copied = copying ranged in
-    put-before rowsAt mostBoundaries boundsAt mostBoundaries (with-origins ranged) (c .pick-before .last .1 .1 .1 .0) (omega arith) (omega (arith, fresh-rows ranged .long))
+    put-before rowsAt mostBoundaries boundsAt mostBoundaries (with-origins ranged) (c .pick-before .last .1 .1 .1 .0) (omega arith)
+    (omega (arith, fresh-rows ranged .long))
     ∙ put-before lowsAt originsLong boundsAt mostBoundaries (with-bounds copied) (ranged .lay-origins .last .1 .1 .1 .0) (omega arith)
     (omega (arith, fresh-origins copied .long))
     ∙ put-here boundsAt mostBoundaries (clearing copied .clear-words .last .0) (copied .copy .last .1 .0) (omega arith) (bounds-long copied)
@@ -106,8 +111,10 @@ origins-part c =
     let ranged = ranging c in
     let copied = copying ranged in
     let laid = ranged .lay-origins in
-    put-before rowsAt mostBoundaries lowsAt originsLong (with-origins ranged) (c .pick-before .last .1 .1 .1 .0) (omega arith) (omega (arith, fresh-rows ranged .long))
-    ∙ put-here lowsAt originsLong (with-bounds copied) (laid .last .1 .1 .1 .0) (omega (arith, fresh-origins copied .long)) (laid .ensures .whole)
+    put-before rowsAt mostBoundaries lowsAt originsLong (with-origins ranged) (c .pick-before .last .1 .1 .1 .0) (omega arith)
+    (omega (arith, fresh-rows ranged .long))
+    ∙ put-here lowsAt originsLong (with-bounds copied) (laid .last .1 .1 .1 .0) (omega (arith, fresh-origins copied .long))
+    (laid .ensures .whole)
 
 origins-table : (c : tie.After-pick-before) (at : ℕ) → at + mostBoundaries ≤ originsLong
     → tableAt (lowsAt + at) (with-rows c) ≡ tableAt at (ranging c .lay-origins .last .1 .1 .1 .0)
@@ -119,7 +126,8 @@ rows-part : (c : tie.After-pick-before) →
     let start = start-of c in
     tableAt rowsAt (with-rows c) ≡ tableOf (row-of start) (length (start .args .bounds .now)) mostBoundaries 0
 rows-part c =
-    put-here rowsAt mostBoundaries (with-origins (ranging c)) (c .pick-before .last .1 .1 .1 .0) (omega (arith, fresh-rows (ranging c) .long))
+    put-here rowsAt mostBoundaries (with-origins (ranging c)) (c .pick-before .last .1 .1 .1 .0)
+    (omega (arith, fresh-rows (ranging c) .long))
     (rows-long c) ∙ rows-laid c
 
 clear-words-requires : tie.Need-clear-words-requires

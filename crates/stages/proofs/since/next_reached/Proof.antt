@@ -54,7 +54,8 @@ returns c =
     let start = c .before .before .before .before .before in
     let l = c .before .before .before .before .loop in
     sym
-    (first-passes (start .args .n) (arrives start) 0 (start .args .n) (l .j) (omega arith) (omega arith) (λ k _ h. l .inv .2 k h) (c .if1 .taken))
+    (first-passes (start .args .n) (arrives start) 0 (start .args .n) (l .j) (omega arith) (omega arith) (λ k _ h. l .inv .2 k h)
+    (c .if1 .taken))
 
 add-j : tie.Need-add-j Inv-loop μ-loop
 add-j c = omega arith

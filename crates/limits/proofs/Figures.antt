@@ -3,7 +3,7 @@ use mathlib.Core.Path.{_≡_, refl, sym, _∙_}
 use lib.IntN.{pos}
 use lib.Count.{trailingZeros}
 use lib.Ieee.{binary32, binary64, ofBits, ofFields, ofInt, odd, round, size, span, climb, units}
-use Rattle.record.specs.Conditions.{thousand, million}
+use Rattle.limits.specs.Common.{largestFigure, million, thousand}
 
 pub million-32 : ofBits binary32 0x4974_2400 ≡ million
 unfolding ofBits ofFields ofInt odd round size span climb units trailingZeros
@@ -22,9 +22,9 @@ unfolding ofBits ofFields ofInt odd round size span climb units trailingZeros
 zero-64 = refl
 
 -- a million is the same value in both formats
-whole-32 : ofBits binary32 0x4974_2400 ≡ ofInt binary32 (pos 1000000)
+whole-32 : ofBits binary32 0x4974_2400 ≡ ofInt binary32 (pos largestFigure)
 unfolding ofBits ofFields ofInt odd round size span climb units trailingZeros
 whole-32 = refl
 
-pub million-whole : ofInt binary32 (pos 1000000) ≡ million
+pub million-whole : ofInt binary32 (pos largestFigure) ≡ million
 million-whole = sym whole-32 ∙ million-32
