@@ -10,7 +10,7 @@ use lib.Ieee.Fits.{and-r}
 use lib.ListN.{length, getD}
 use borrow.Author.Tests.{lt-ltb, le-ltb}
 use Rattle.laws.proofs.Tests.{by-test}
-use Rattle.laws.specs.theory.Each.{Each, each-none, each-more}
+use Rattle.laws.specs.inner.Each.{Each, each-none, each-more}
 use Rattle.phrase.specs.Phrase.{Phrase, Stage}
 use Rattle.paths.specs.declared.passes.Strictness.{Strictness}
 use Rattle.paths.specs.declared.passes.Strictness.the-variants.{Strict, Relaxed}

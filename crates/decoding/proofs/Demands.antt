@@ -22,7 +22,7 @@ use Rattle.record.specs.Meaning.{phraseOf}
 use Rattle.record.specs.inner.Accepted.{CandidateFit}
 use Rattle.entries.specs.Entry.{Entry}
 use Rattle.entries.specs.Words.{allWords}
-use Rattle.laws.specs.theory.Each.{Each, each-none, each-more}
+use Rattle.laws.specs.inner.Each.{Each, each-none, each-more}
 use Rattle.laws.proofs.Each.{each-follows, each-map}
 use Rattle.entries.specs.inner.Placing.{Fit}
 use Rattle.entries.specs.Ranking.{ranked, Ranked}

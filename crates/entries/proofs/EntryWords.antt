@@ -11,7 +11,7 @@ use Rattle.entries.specs.Entry.{ReportedUnit, Entry}
 use Rattle.limits.specs.Sizes.{entryWords}
 use Rattle.entries.specs.Words.{unitWords, wordsOf, allWords}
 use Rattle.entries.specs.inner.EntryFrom.{unitsFrom}
-use Rattle.laws.specs.theory.Each.{Each, each-none, each-more}
+use Rattle.laws.specs.inner.Each.{Each, each-none, each-more}
 use Rattle.entries.specs.inner.Placing.{Fit}
 use Rattle.laws.proofs.Stores.{sets-append}
 

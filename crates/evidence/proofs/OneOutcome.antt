@@ -4,7 +4,7 @@ use mathlib.Core.Bool.{Bool, cond}
 use mathlib.Core.List.{List}
 use mathlib.Core.Path.{_≡_, refl}
 use lib.Dec.{eqb}
-use Rattle.laws.specs.theory.Each.{each-none, each-more}
+use Rattle.laws.specs.inner.Each.{each-none, each-more}
 use Rattle.laws.specs.theory.OneOutcome.{ExactlyOne}
 use Rattle.frames.specs.Outcome.{Outcome, accepted, refused}
 use Rattle.frames.specs.declared.list.Nearest.{Nearest}

@@ -5,7 +5,7 @@ use mathlib.Core.List.{List, [], _∷_}
 use mathlib.Core.Logic.{_↔_}
 use mathlib.Core.Option.{Option, none, some}
 use mathlib.Core.Path.{_≡_, refl, sym, ap, _∙_}
-use Rattle.laws.specs.theory.Each.{Each}
+use Rattle.laws.specs.inner.Each.{Each}
 use Rattle.laws.specs.Rules.{Rule, rule, firstOf}
 use Rattle.laws.specs.theory.OneOutcome.{ExactlyOne}
 use Rattle.laws.proofs.Rules.{Says, given-under}

@@ -5,7 +5,7 @@ use mathlib.Core.List.{List, [], _∷_, _++_}
 use mathlib.Core.Option.{some}
 use mathlib.Core.Path.{_≡_, refl}
 use borrow.Author.Tests.{eqb-false}
-use Rattle.laws.specs.theory.Each.{Each, each-none, each-more}
+use Rattle.laws.specs.inner.Each.{Each, each-none, each-more}
 use Rattle.laws.specs.Rules.{Rule, rule, firstOf}
 use Rattle.laws.proofs.Rules.{Fails, given-under, none-exactly, first-speaks, second-speaks, passed-over}
 

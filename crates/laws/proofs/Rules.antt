@@ -7,7 +7,7 @@ use mathlib.Core.Logic.{_↔_, _⊎_, inl, inr}
 use mathlib.Core.Option.{Option, none, some, orElse, Option·some-injective, Option·none-ne-some, Option·some-ne-none}
 use mathlib.Core.Path.{_≡_, refl, sym, ap, subst, _∙_}
 use native.Mathlib.Nat.{le-trans, le-of-lt, lt-irrefl}
-use Rattle.laws.specs.theory.Each.{Each, each-none, each-more}
+use Rattle.laws.specs.inner.Each.{Each, each-none, each-more}
 use Rattle.laws.specs.Rules.{Rule, rule, firstOf}
 use Rattle.laws.proofs.Choices.{taken, passed}
 use Rattle.laws.proofs.Numbers.{by-order}

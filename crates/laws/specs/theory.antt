@@ -1,3 +1,2 @@
 -- What theorems speak of; no contract uses it.
-pub mod Each
 pub mod OneOutcome

@@ -1,5 +1,5 @@
 -- What the code has room for: the lengths of its arrays.
-use Prim.Native.Nat.{ℕ, suc, _+_, _*_}
+use Prim.Native.Nat.{ℕ, _+_, _*_}
 
 abbrev pub mostUnits : ℕ
 mostUnits = 16

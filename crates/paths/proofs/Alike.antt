@@ -11,7 +11,7 @@ use lib.ListN.{length, getD}
 use lib.Ieee.{Float, binary64, nan, add, neg}
 use lib.Ieee.Fits.{and-l, and-r}
 use Rattle.laws.proofs.Tests.{by-choice}
-use Rattle.laws.specs.theory.Each.{Each, each-none, each-more}
+use Rattle.laws.specs.inner.Each.{Each, each-none, each-more}
 use Rattle.phrase.specs.Phrase.{Phrase, Stage, Speech}
 use Rattle.paths.specs.declared.passes.Strictness.{Strictness}
 use Rattle.paths.specs.declared.passes.Strictness.the-variants.{Strict, Relaxed}

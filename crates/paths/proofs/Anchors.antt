@@ -10,7 +10,7 @@ use lib.Dec.{leb, ltb, leb→le, le→leb, ltb→lt, lt→ltb, nltb→le}
 use lib.ListN.{length}
 use lib.Ieee.Fits.{and-i, and-l, and-r}
 use Rattle.paths.specs.Frames.{withinMask}
-use Rattle.laws.specs.theory.Each.{Each, each-none, each-more}
+use Rattle.laws.specs.inner.Each.{Each, each-none, each-more}
 use Rattle.paths.specs.Anchors.{Anchor, select, numbered, keptIn, heldIn}
 use borrow.Author.Tests.{le-leb, lt-leb, lt-ltb, le-ltb}
 use Rattle.laws.proofs.Tests.{by-choice, by-test, same-test, and-same}

@@ -9,7 +9,7 @@ use lib.Ieee.{Float, binary64, prec, mul}
 use lib.Ieee.Fits.{and-l, and-r}
 use Rattle.ieee.specs.inner.Value.{Within}
 use Rattle.ieee.proofs.Magnitude.{add-within, sub-within, mul-within, neg-within, weaken}
-use Rattle.laws.specs.theory.Each.{Each, each-none, each-more}
+use Rattle.laws.specs.inner.Each.{Each, each-none, each-more}
 use Rattle.phrase.specs.Phrase.{Phrase, Stage}
 use Rattle.phrase.specs.Filler.{counted}
 use Rattle.paths.specs.declared.passes.Strictness.{Strictness}

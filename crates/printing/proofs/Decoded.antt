@@ -26,7 +26,7 @@ use Rattle.record.proofs.Answers.{refused-first, desk-last}
 use Rattle.entries.specs.Entry.{Entry}
 use Rattle.limits.specs.Sizes.{entryWords, workCells}
 use Rattle.entries.specs.Words.{allWords}
-use Rattle.laws.specs.theory.Each.{Each}
+use Rattle.laws.specs.inner.Each.{Each}
 use Rattle.entries.specs.inner.Placing.{Fit}
 use Rattle.entries.specs.Ranking.{ranked}
 use Rattle.entries.proofs.Ranks.{each-ranked}

@@ -9,7 +9,7 @@ use lib.Ieee.{binary32, toBits}
 use Rattle.entries.specs.Entry.{ReportedUnit, Entry}
 use Rattle.limits.specs.Sizes.{entryWords}
 use Rattle.entries.specs.Words.{unitWords, wordsOf, allWords}
-use Rattle.laws.specs.theory.Each.{Each, each-none, each-more}
+use Rattle.laws.specs.inner.Each.{Each, each-none, each-more}
 use Rattle.entries.specs.inner.Placing.{Fit}
 use Rattle.entries.proofs.EntryWords.{length-wordsOf}
 use Rattle.printing.specs.Listing.{headLine, unitLines, entryLines, allLines}

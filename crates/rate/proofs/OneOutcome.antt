@@ -7,7 +7,7 @@ use borrow.Author.Tests.{eqb-false}
 use lib.Dec.{eqb, ltb}
 use lib.Ieee.{Float}
 use lib.ListN.{length}
-use Rattle.laws.specs.theory.Each.{Each, each-none, each-more}
+use Rattle.laws.specs.inner.Each.{Each, each-none, each-more}
 use Rattle.laws.specs.Rules.{Rule, rule}
 use Rattle.laws.specs.theory.OneOutcome.{ExactlyOne}
 use Rattle.limits.specs.Common.{lastFrame}

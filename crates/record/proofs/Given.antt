@@ -9,7 +9,7 @@ use mathlib.Core.Path.{_≡_, refl, sym, ap, _∙_}
 use native.Mathlib.Omega.{arith}
 use borrow.Author.Tests.{eqb-false, ltb-true}
 use lib.Dec.{eqb, ltb}
-use Rattle.laws.specs.theory.Each.{Each, each-none, each-more}
+use Rattle.laws.specs.inner.Each.{Each, each-none, each-more}
 use Rattle.laws.specs.Rules.{Rule, rule, firstOf}
 use Rattle.laws.proofs.Each.{each-follows, each-split, each-join}
 use Rattle.laws.proofs.Rules as in-order

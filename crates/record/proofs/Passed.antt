@@ -6,7 +6,7 @@ use mathlib.Core.Path.{_≡_, subst}
 use mathlib.Core.Logic.{⊎-elim}
 use native.Mathlib.Nat.{eq-or-lt-of-le}
 use native.Mathlib.Omega.{arith}
-use Rattle.laws.specs.theory.Each.{Each, each-more}
+use Rattle.laws.specs.inner.Each.{Each, each-more}
 use Rattle.laws.proofs.Rules.{Fails}
 use Rattle.record.specs.Layout.{trailerStart, trailerOf, layoutOf}
 use Rattle.record.specs.Conditions.{stub, otherEdition, oversized, overreaching, badTrack, badCost, bare, repeated, badUnits, badColumn}

@@ -10,7 +10,7 @@ use lib.ListN.{length}
 use lib.Dec.{T}
 use lib.Ieee.{Float, Format, binary64, ofBits, isNan, nanBits}
 use lib.Ieee.Bits.{nanBits-is}
-use Rattle.laws.specs.theory.Each.{Each, each-none, each-more}
+use Rattle.laws.specs.inner.Each.{Each, each-none, each-more}
 use Rattle.laws.specs.Rules.{Rule, firstOf}
 use Rattle.laws.proofs.Rules.{Fails, none-exactly}
 use Rattle.laws.proofs.Listed.{length-listed, getD-listed}

@@ -5,7 +5,7 @@ use mathlib.Core.List.{List}
 use mathlib.Core.Path.{_≡_, refl}
 use lib.Dec.{eqb}
 use lib.ListN.{length}
-use Rattle.laws.specs.theory.Each.{each-none, each-more}
+use Rattle.laws.specs.inner.Each.{each-none, each-more}
 use Rattle.laws.specs.theory.OneOutcome.{ExactlyOne}
 use Rattle.laws.proofs.OneOutcome.{with-buffer, one-alike}
 use Rattle.frames.specs.Outcome.{Outcome, accepted, refused}

@@ -8,7 +8,7 @@ use native.Mathlib.Nat.{le-trans}
 use native.Mathlib.Omega.{arith}
 use lib.ListN.{length}
 use borrow.Author.Tests.{ltb-false}
-use Rattle.laws.specs.theory.Each.{Each, each-more}
+use Rattle.laws.specs.inner.Each.{Each, each-more}
 use Rattle.laws.specs.Rules.{Rule}
 use Rattle.laws.proofs.Rules.{Fails, none-exactly}
 use Rattle.laws.proofs.Choices.{neither-left}

@@ -4,7 +4,7 @@ use Prim.Native.Nat.{ℕ, _≤_}
 use Rattle.limits.specs.Capacity.{mostUnits, mostBoundaries, mostAnchors, mostCandidates}
 use Rattle.limits.specs.declared.edition.Limits.{Limits}
 
--- no count of a record is above it, since none is above the record's bytes: "over 65,536 bytes"
+-- what the numbers stay below that no array is made for
 abbrev pub mostCount : ℕ
 mostCount = 65536
 
