@@ -31,9 +31,9 @@ use Rattle.closed.specs.Answered.{Says, passWord}
 use Rattle.closed.specs.Asked.{columnsOf}
 use Rattle.closed.proofs.Bridge.{readable}
 use Rattle.record.specs.Layout.{limitsOf}
-use Rattle.record.specs.Meaning.{phraseOf}
+use Rattle.record.specs.Meaning.{phraseOf, stageOf}
 use Rattle.record.specs.inner.Accepted.{Laid, CandidateFit}
-use Rattle.record.specs.inner.Reading.{stageOf, candidateOf}
+use Rattle.record.specs.inner.Reading.{candidateOf}
 use Rattle.record.specs.declared.layout.Layout.{Layout}
 use Rattle.record.specs.declared.read.Which.{Which}
 use Rattle.record.specs.declared.read.Which.the-variants.{Nuclei, Count}

@@ -1,40 +1,23 @@
 -- Each call has exactly one outcome that meets the contract. There is one, so that it asks nothing impossible; and two that meet it are
 -- the same, in the answer and in every lent buffer, so that it leaves nothing open.
-use Prim.Native.Nat.{ℕ, _-_}
-use mathlib.Core.List.{List, [], _∷_}
+use Prim.Native.Nat.{ℕ}
+use mathlib.Core.List.{List}
 use mathlib.Core.Option.{Option, none, some}
 use mathlib.Core.Path.{_≡_, refl, sym, ap, ap₂, _∙_}
-use lib.ListN.{length, getD}
+use lib.ListN.{length}
 use lib.Ieee.{Float}
 use Rattle.laws.specs.theory.OneOutcome.{ExactlyOne}
 use Rattle.frames.specs.Outcome.{Outcome, accepted, refused}
-use Rattle.record.specs.Refusals.{numberOf, refusalWith}
+use Rattle.record.specs.Refusals.{refusalWith}
 use Rattle.record.specs.declared.refusal.Refusal.{Refusal}
-use Rattle.record.specs.declared.refusal.Refusal.the-variants.{Stub, Edition, Size, Reach, Track, Cost, Bare, Twice, Units, Column, Desk}
 use Rattle.record.specs.Meaning.{phraseOf}
+use Rattle.record.proofs.Named.{named, named-number}
 use Rattle.decoding.specs.Contract.{outcome, Decodes}
 use Rattle.decoding.specs.declared.answer.Decoded.{Decoded}
 use Rattle.decoding.specs.declared.answer.Decoded.the-variants.{Entries, Refused}
 use Rattle.decoding.proofs.Decodes.{decodes-refused, decodes-accepted}
 
 -- ---- an answer is known by its number and value
-
--- the refusal of each number
-abbrev named : ℕ → Refusal
-named n = getD (Stub ∷ Edition ∷ Size ∷ Reach ∷ Track ∷ Cost ∷ Bare ∷ Twice ∷ Units ∷ Column ∷ Desk ∷ []) (n - 1) Stub
-
-named-number : (q : Refusal) → named (numberOf q) ≡ q
-named-number Stub = refl
-named-number Edition = refl
-named-number Size = refl
-named-number Reach = refl
-named-number Track = refl
-named-number Cost = refl
-named-number Bare = refl
-named-number Twice = refl
-named-number Units = refl
-named-number Column = refl
-named-number Desk = refl
 
 abbrev given : Outcome ℕ → Decoded
 given (accepted count) = Entries count

@@ -3,3 +3,4 @@
 mod Group
 mod ShutOut
 mod AlikeExamples
+mod SampleUnits

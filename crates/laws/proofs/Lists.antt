@@ -1,13 +1,17 @@
 -- Parts of lists, with places as code counts them (`i + 1`). Assumes nothing.
 use Prim.Native.Nat.{ℕ, zero, suc, _+_, _-_, _≤_, _<_}
-use mathlib.Core.Path.{_≡_, sym, ap, _∙_}
-use mathlib.Core.List.{List, _∷_}
+use mathlib.Core.Path.{_≡_, refl, sym, ap, _∙_}
+use mathlib.Core.List.{List, [], _∷_}
 use native.Mathlib.Numerals.{add-one}
 use native.Mathlib.Omega.{arith}
 use lib.ListN.{length, getD, drop, replicate}
 use lib.Seq.{drop-cons}
 
 module _ {ℓ} {A : Type ℓ} where
+  pub length-none : (l : List A) → length l ≡ 0 → l ≡ []
+  length-none [] e = refl
+  length-none (x ∷ l) e = absurd (omega arith)
+
   -- what is left from place i on: its first, then what is left from the next place on
   pub left-from : (l : List A) (i : ℕ) (d : A) → i < length l → drop i l ≡ getD l i d ∷ drop (i + 1) l
   left-from l i d h = drop-cons l i d h ∙ ap (λ (n : ℕ). getD l i d ∷ drop n l) (sym (add-one i))

@@ -22,6 +22,7 @@ pub mod Rising
 pub mod LookAhead
 pub mod Ranges
 pub mod Reached
+pub mod Counts
 pub mod Demanded
 pub mod Finite
 pub mod PhraseFigures

@@ -9,7 +9,7 @@ use lib.ListN.{length}
 use lib.Ieee.{Float}
 use Rattle.phrase.specs.Phrase.{Phrase}
 use Rattle.paths.specs.declared.passes.Pass.{Pass}
-use Rattle.paths.specs.Path.{Path, count, Admitted, sum, Best, NoPath}
+use Rattle.paths.specs.Path.{Path, sum, Best, HasPath, NoPath}
 use Rattle.paths.specs.Passes.{passNumber, passProblem, speaks, hasNucleus, inOrder}
 
 -- What decoding says of a candidate: the pass, the path chosen and its sum; or that there is no path, by one of two words.
@@ -26,7 +26,7 @@ answerNumber unvoiced = 5
 
 -- the pass admits a path with the candidate's unit count
 abbrev pub Admits : Phrase → List ℕ → Pass → Type 0
-Admits phrase columns pass = (path : Path) × Admitted (passProblem phrase pass columns) path × (count path ≡ length columns)
+Admits phrase columns pass = HasPath (passProblem phrase pass columns) (length columns)
 
 -- it admits none
 abbrev pub AdmitsNone : Phrase → List ℕ → Pass → Type 0

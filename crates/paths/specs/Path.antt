@@ -64,6 +64,10 @@ pub record Best (q : Problem) (k : ℕ) (p : Path) : Type 0 where
   pub counted : count p ≡ k
   pub largest : (r : Path) → Admitted q r → count r ≡ k → T (le (sum q r) (sum q p))
 
--- Demand 3, of one pass: "no pass admits a path of that count".
+-- Demand 3, of one pass: it "admits a path with the candidate's unit count", k;
+abbrev pub HasPath : Problem → ℕ → Type 0
+HasPath q k = (p : Path) × Admitted q p × (count p ≡ k)
+
+-- "no pass admits a path of that count".
 unfoldable pub NoPath : Problem → ℕ → Type 0
 NoPath q k = (p : Path) → Admitted q p → count p ≡ k → ⊥

@@ -8,9 +8,8 @@ use lib.ListN.{length}
 use Rattle.limits.specs.Capacity.{mostAnchors, mostBoundaries}
 use Rattle.phrase.specs.Phrase.{Phrase}
 use Rattle.stages.specs.Parts.{Fit, FitList}
-use Rattle.record.specs.Meaning.{phraseAt, phraseOf}
+use Rattle.record.specs.Meaning.{phraseAt, phraseOf, stageOf}
 use Rattle.record.specs.inner.Accepted.{Laid, Frames}
-use Rattle.record.specs.inner.Reading.{stageOf}
 use Rattle.record.specs.declared.layout.Layout.{Layout}
 use Rattle.record.specs.declared.read.Which.{Which}
 use Rattle.record.specs.declared.read.Which.the-variants.{Nuclei, Count}

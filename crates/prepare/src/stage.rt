@@ -24,9 +24,9 @@ ghost use Prim.Native.Nat.{_+_, _<_, _≤_, _^_};
 ghost use lib.ListN.{length, replicate};
 ghost use Rattle.laws.specs.inner.Tables.{written};
 ghost use Rattle.paths.specs.Anchors.{keptIn, kept};
-ghost use Rattle.record.specs.Meaning.{phraseOf};
+ghost use Rattle.record.specs.Meaning.{phraseOf, stageOf};
 ghost use Rattle.record.specs.inner.Accepted.{Laid};
-ghost use Rattle.record.specs.inner.Reading.{stageOf, HasTable};
+ghost use Rattle.record.specs.inner.Reading.{HasTable};
 ghost use Rattle.limits.specs.Capacity.{mostAnchors, mostBoundaries};
 ghost use Rattle.limits.specs.Common.{durations};
 ghost use Rattle.stages.specs.Lists.{figuresLong, spansLong, wordsLong};
@@ -35,7 +35,7 @@ ghost use Rattle.stages.specs.Ranges.{entryOf};
 ghost use Rattle.prepare.specs.Sides.{firstRowIn, durationsOf, Followed, figureBefore, RowsWithin, Spans, Worded, Figured, Prepared};
 
 // Where the stage's score rows begin.
-fn row_from(at: Layout, which: Which) -> u32
+pub fn row_from(at: Layout, which: Which) -> u32
     requires { ⌜ at .nuclei .count < 2 ^ 32 ⌝ }
     ensures { λ r. ⌜ r ≡ firstRowIn at which ⌝ }
 {

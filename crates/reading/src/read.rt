@@ -28,9 +28,9 @@ ghost use lib.Ieee.{isNan};
 ghost use Rattle.limits.specs.Common.{shortestUnit, longestUnit};
 ghost use Rattle.record.specs.Conditions.{f32At};
 ghost use Rattle.record.specs.Format.{costsBytes};
-ghost use Rattle.record.specs.Meaning.{framesAt, phraseOf};
+ghost use Rattle.record.specs.Meaning.{framesAt, phraseOf, stageOf};
 ghost use Rattle.record.specs.inner.Accepted.{Laid};
-ghost use Rattle.record.specs.inner.Reading.{stageOf, anchorSection, boundarySection, tableStart, HasTable, edgesOf, candidateOf, over, Copied, IsFloat, rowStart, ScoreRow};
+ghost use Rattle.record.specs.inner.Reading.{anchorSection, boundarySection, tableStart, HasTable, edgesOf, candidateOf, over, Copied, IsFloat, rowStart, ScoreRow};
 
 // The mask, as the part of the record that it is.
 pub fn mask(bytes: &[u8], at: Layout) -> &[u8]

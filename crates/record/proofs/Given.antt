@@ -17,7 +17,7 @@ use Rattle.laws.proofs.Rules.{Fails, FirstHolds, Says, given-exactly, none-exac
 use Rattle.record.specs.Below.{anyBelow}
 use Rattle.record.specs.Layout.{trailerStart, trailerOf, layoutOf, limitsOf}
 use Rattle.record.specs.Conditions.{stub, otherEdition, oversized, overreaching, badTrack, badCost, bare, repeated, badUnits, badColumn, shortDesk}
-use Rattle.record.specs.Refusals.{numberOf, trailerRules, contentRules, firstRules, candidateRules, ownRules, refusalWith}
+use Rattle.record.specs.Refusals.{numberOf, trailerRules, contentRules, firstRules, candidateRules, ownRules, refusalOf, refusalWith}
 use Rattle.record.specs.declared.refusal.Refusal.{Refusal}
 use Rattle.record.specs.declared.refusal.Refusal.the-variants.{Stub, Edition, Size, Reach, Track, Cost, Bare, Twice, Units, Column, Desk}
 use Rattle.record.proofs.Below.{any-found}
@@ -98,6 +98,18 @@ module _ (bytes : List ℕ) (best back out : ℕ) where
   unfolding refusalWith
   given-under q e = in-order.given-under (own ++ desk) all-say e
 
+  -- ---- without 11
+
+  -- the same of the record's own rules alone: in their order,
+  pub own-in-order : (q : Refusal) → (refusalOf bytes ≡ some q) ↔ FirstHolds own q
+  unfolding refusalOf
+  own-in-order q = given-exactly own q
+
+  -- each under its condition, and never 11
+  pub own-under : (q : Refusal) → refusalOf bytes ≡ some q → (conditionOf q ≡ true) × (q ≡ Desk → ⊥)
+  unfolding refusalOf
+  own-under q e = let its = in-order.given-under own own-say e in (its .condition, its .not-desk)
+
   -- ---- under none of the others
 
   -- where no rule of the record's own holds, neither does a condition, but for that of 11
@@ -128,6 +140,14 @@ module _ (bytes : List ℕ) (best back out : ℕ) where
   accepted-under-none = (
     λ e. no-condition (none-exactly (own ++ desk) .0 e),
     λ none-true. none-under (own ++ desk) all-say (λ q held. true≢false (sym held ∙ none-true q)),
+  )
+
+  -- and none of the record's own exactly where no condition holds but for that of 11
+  pub own-under-none : (refusalOf bytes ≡ none) ↔ ((q : Refusal) → (q ≡ Desk → ⊥) → conditionOf q ≡ false)
+  unfolding refusalOf
+  own-under-none = (
+    λ e q other. each-false (none-holds (limitsOf bytes) bytes (none-exactly own .0 e)) q (λ same. absurd (other same)),
+    λ none-true. none-under own own-say (λ q its. true≢false (sym (its .condition) ∙ none-true q (its .not-desk))),
   )
 
   -- 11 is given only where no other condition holds

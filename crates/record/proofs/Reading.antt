@@ -24,9 +24,9 @@ use Rattle.record.specs.Format.{tableBytes}
 use Rattle.record.specs.Layout.{trailerStart, trailerOf, layoutFrom, layoutOf, limitsOf, limitsAt}
 use Rattle.record.specs.Conditions.{overreaching}
 use Rattle.record.specs.Refusals.{trailerRules}
-use Rattle.record.specs.Meaning.{framesAt, durationAt, candidateAt, phraseAt, phraseOf}
+use Rattle.record.specs.Meaning.{framesAt, durationAt, candidateAt, phraseAt, phraseOf, stageOf}
 use Rattle.record.specs.inner.Accepted.{Laid}
-use Rattle.record.specs.inner.Reading.{stageOf, anchorSection, boundarySection, tableStart, HasTable, candidateOf}
+use Rattle.record.specs.inner.Reading.{anchorSection, boundarySection, tableStart, HasTable, candidateOf}
 use Rattle.limits.specs.declared.edition.Limits.{Limits}
 use Rattle.record.specs.declared.layout.Layout.{Layout}
 use Rattle.record.specs.declared.refusal.Refusal.{Refusal}

@@ -5,7 +5,7 @@ use mathlib.Core.List.{List}
 use lib.Dec.{eqb}
 use lib.Ieee.{Float}
 use Rattle.laws.specs.Listed.{listed}
-use Rattle.phrase.specs.Phrase.{Phrase, Candidate, Speech, silent, spoken}
+use Rattle.phrase.specs.Phrase.{Phrase, Stage, Candidate, Speech, silent, spoken}
 use Rattle.phrase.specs.declared.costs.Costs.{Costs}
 use Rattle.record.specs.Bytes.{byteAt}
 use Rattle.record.specs.Layout.{layoutOf, limitsOf}
@@ -15,6 +15,8 @@ use Rattle.record.specs.Conditions.{frameAt, speechStart, speechEnd, f32
 use Rattle.limits.specs.declared.edition.Limits.{Limits}
 use Rattle.record.specs.declared.layout.Section.{Section}
 use Rattle.record.specs.declared.layout.Layout.{Layout}
+use Rattle.record.specs.declared.read.Which.{Which}
+use Rattle.record.specs.declared.read.Which.the-variants.{Nuclei, Count}
 
 -- "Mask: F bytes, 1 for speech."
 abbrev pub maskAt : List ℕ → Section → List ℕ
@@ -72,3 +74,8 @@ phraseAt l bytes at =
 unfoldable pub phraseOf : List ℕ → Phrase
 unfolding phraseAt
 phraseOf bytes = phraseAt (limitsOf bytes) bytes (layoutOf bytes)
+
+-- the stage that a word of the code names: that of the nuclei, or the added one
+abbrev pub stageOf : Which → Phrase → Stage
+stageOf Nuclei phrase = phrase .nuclei
+stageOf Count phrase = phrase .added

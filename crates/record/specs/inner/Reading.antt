@@ -6,7 +6,7 @@ use mathlib.Core.Path.{_≡_}
 use lib.Dec.{T}
 use lib.ListN.{length, getD, drop}
 use lib.Ieee.{Float, isNan}
-use Rattle.phrase.specs.Phrase.{Phrase, Stage, Candidate, Speech, silent, spoken}
+use Rattle.phrase.specs.Phrase.{Phrase, Candidate, Speech, silent, spoken}
 use Rattle.record.specs.Conditions.{f32At, firstTable, secondTable}
 use Rattle.record.specs.declared.layout.Section.{Section}
 use Rattle.record.specs.declared.layout.Layout.{Layout}
@@ -15,12 +15,7 @@ use Rattle.record.specs.declared.read.Which.the-variants.{Nuclei, Count}
 use Rattle.record.specs.declared.read.Edges.{Edges}
 use Rattle.record.specs.declared.read.Edges.the-variants.{Silent, Spoken}
 
--- the stage that a word of the code names
-abbrev pub stageOf : Which → Phrase → Stage
-stageOf Nuclei phrase = phrase .nuclei
-stageOf Count phrase = phrase .added
-
--- where its two lists stand, and its duration table
+-- where the two lists of a stage stand, and its duration table
 abbrev pub anchorSection : Which → Layout → Section
 anchorSection Nuclei at = at .nuclei
 anchorSection Count at = at .«added_anchors»

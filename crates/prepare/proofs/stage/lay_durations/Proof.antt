@@ -8,8 +8,7 @@ use Rattle.laws.proofs.Listed.{written-full}
 use Rattle.laws.proofs.Filling.{Filling, filling-none, filling-more, filling-all}
 use Rattle.limits.specs.Common.{shortestUnit, durations}
 use Rattle.stages.specs.Filler.{noCost}
-use Rattle.record.specs.Meaning.{phraseOf}
-use Rattle.record.specs.inner.Reading.{stageOf}
+use Rattle.record.specs.Meaning.{phraseOf, stageOf}
 use Rattle.record.specs.declared.read.Which.{Which}
 use Rattle.prepare.proofs.stage.lay_durations.Statement.{statement}
 use Rattle.prepare.proofs.stage.lay_durations.Tie as tie

@@ -8,8 +8,7 @@ use Rattle.laws.proofs.Listed.{length-table}
 use Rattle.paths.specs.Anchors.{keptIn}
 use Rattle.limits.specs.Capacity.{mostBoundaries}
 use Rattle.limits.specs.Common.{shortestUnit, durations}
-use Rattle.record.specs.Meaning.{phraseOf}
-use Rattle.record.specs.inner.Reading.{stageOf}
+use Rattle.record.specs.Meaning.{phraseOf, stageOf}
 use Rattle.record.specs.declared.read.Which.the-variants.{Nuclei}
 use Rattle.stages.specs.Filler.{noCost}
 use Rattle.stages.specs.Lists.{startsAt, gapsAt, stopsAt, fillerLong, tableAt}

@@ -3,8 +3,7 @@ use Prim.Native.Nat.{ℕ}
 use mathlib.Core.List.{List}
 use mathlib.Core.Path.{_≡_}
 use lib.ListN.{take}
-use Rattle.record.specs.Meaning.{phraseOf}
-use Rattle.record.specs.inner.Reading.{stageOf}
+use Rattle.record.specs.Meaning.{phraseOf, stageOf}
 use Rattle.prepare.proofs.Lists.{copied-front, copied-counted, copied-within}
 use Rattle.record.proofs.Reading.{nuclei-first}
 use Rattle.prepare.proofs.Parts.{few-boundaries}

@@ -4,8 +4,7 @@ use mathlib.Core.List.{List}
 use mathlib.Core.Path.{_≡_, _∙_}
 use lib.ListN.{take}
 use Rattle.paths.specs.Anchors.{keptIn}
-use Rattle.record.specs.Meaning.{phraseOf}
-use Rattle.record.specs.inner.Reading.{stageOf}
+use Rattle.record.specs.Meaning.{phraseOf, stageOf}
 use Rattle.prepare.specs.Sides.{Worded}
 use Rattle.prepare.proofs.Lists.{copied-front, copied-counted, copied-within}
 use Rattle.prepare.proofs.Parts.{few-anchors, first-row-is, few-nuclei, read-fit, read-listed, read-followed, read-rows-fit}
