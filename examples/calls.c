@@ -1,4 +1,5 @@
-/* Makes each of the smaller calls once or twice, on worked examples, and prints what comes back. */
+/* Makes each of the smaller calls once or twice, on worked examples and on the phrase record that
+ * standard input has, and prints what comes back. */
 #include <inttypes.h>
 #include <math.h>
 #include <stdio.h>
@@ -49,10 +50,31 @@ static void marks(void)
     printf("joins refused %" PRId32 "\n", tikuwero_joins(voice, 20, pitched, 20, 6, 12));
 }
 
+/* The number that came back, but words for a stage without boundaries. */
+static void print_most(const char *of, int32_t most)
+{
+    if (most == TIKUWERO_NO_BOUNDARY)
+        printf("most units %s: no path\n", of);
+    else
+        printf("most units %s: %" PRId32 "\n", of, most);
+}
+
+/* The sample phrase: of its two candidates one has two units, for which there is no path. */
+static void most_units(void)
+{
+    static uint8_t record[TIKUWERO_MAX_RECORD + 1];
+    size_t len = fread(record, 1, sizeof record, stdin);
+    print_most("of nuclei, relaxed", tikuwero_most_units(record, len, 0, 0));
+    print_most("of nuclei, strict", tikuwero_most_units(record, len, 0, 1));
+    print_most("of the added stage", tikuwero_most_units(record, len, 1, 0));
+    print_most("refused", tikuwero_most_units(record, 63, 0, 0));
+}
+
 int main(void)
 {
     rates();
     spans();
     marks();
+    most_units();
     return 0;
 }

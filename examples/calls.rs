@@ -1,9 +1,9 @@
-//! Makes each of the smaller calls once or twice, on worked examples, as calls.c does, and decodes the record in the file
-//! that its argument names.
+//! Makes each of the smaller calls once or twice, on worked examples, as calls.c does, and decodes a record. It is in the
+//! file that the argument names.
 
 mod tikuwero;
 
-use tikuwero::{Desk, Refusal};
+use tikuwero::{Desk, Refusal, Stage, Strictness};
 
 fn rates() {
     let frames = [60, 10, 30];
@@ -41,6 +41,19 @@ fn marks() {
     );
 }
 
+/// The sample phrase: of its two candidates one has two units, for which there is no path.
+fn most_units(file: &str) {
+    let record = std::fs::read(file).expect("the file can be read");
+    for stage in [Stage::Nuclei, Stage::Added] {
+        for strictness in [Strictness::Relaxed, Strictness::Strict] {
+            let most = tikuwero::most_units(&record, stage, strictness);
+            println!("most units {stage:?} {strictness:?}: {most:?}");
+        }
+    }
+    let refused = tikuwero::most_units(&record[..63], Stage::Nuclei, Strictness::Relaxed);
+    println!("most units refused {refused:?}");
+}
+
 /// The id of the best candidate: a `match` on the answer as the last expression, with the desk and the record still here.
 fn best(file: &str) -> Result<u32, Refusal> {
     let record = std::fs::read(file).expect("the file can be read");
@@ -56,5 +69,6 @@ fn main() {
     spans();
     marks();
     let file = std::env::args().nth(1).expect("the argument is a file");
+    most_units(&file);
     println!("best candidate {:?}", best(&file));
 }

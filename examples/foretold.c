@@ -1,5 +1,6 @@
-/* Calls of the five entries with the answers that the header's text foretells, worked out before they were made. Decoding is
+/* Calls of the six entries with the answers that the header's text foretells, worked out before they were made. Decoding is
  * given the sample phrase on standard input, altered at places that docs/FORMAT.md names; the scores are foretold by that page.
+ * The most units are asked for of such records too, and of some that are laid out here.
  * Prints how many of each entry came out as foretold; the exit status is 1 if one did not. */
 #include <inttypes.h>
 #include <math.h>
@@ -254,6 +255,7 @@ static void foretell_tails(void)
 #define SAMPLE_BYTES 1376
 #define CELLS TIKUWERO_WORK_CELLS
 #define SPARE 4 /* cells that are lent beyond those needed, or not lent at all */
+#define CHANGES 2
 
 struct change {
     size_t at, bytes; /* 0 bytes: no change */
@@ -268,7 +270,7 @@ struct entry {
 struct decode_case {
     size_t record_len; /* bytes before the sample are 0 */
     size_t best_len, back_len, out_len;
-    struct change changes[2];
+    struct change changes[CHANGES];
     int32_t returned;
     struct entry entries[2];
 };
@@ -323,15 +325,20 @@ static uint8_t sample[SAMPLE_BYTES], record[TIKUWERO_MAX_RECORD + 1];
 static double best[CELLS + SPARE];
 static uint32_t back[CELLS + SPARE], out[TIKUWERO_MAX_OUT + SPARE];
 
-static const uint8_t *altered(const struct decode_case *c)
+static void put(uint8_t *at, struct change change)
+{
+    for (size_t i = 0; i < change.bytes; i++)
+        at[change.at + i] = (uint8_t)(change.value >> 8 * i);
+}
+
+static const uint8_t *altered(size_t record_len, const struct change changes[CHANGES])
 {
     uint8_t *at = record + sizeof record - SAMPLE_BYTES;
     memset(record, 0, sizeof record);
     memcpy(at, sample, SAMPLE_BYTES);
-    for (size_t k = 0; k < COUNT(c->changes); k++)
-        for (size_t i = 0; i < c->changes[k].bytes; i++)
-            at[c->changes[k].at + i] = (uint8_t)(c->changes[k].value >> 8 * i);
-    return record + sizeof record - c->record_len;
+    for (size_t k = 0; k < CHANGES; k++)
+        put(at, changes[k]);
+    return record + sizeof record - record_len;
 }
 
 /* Every cell of the work areas and every word of the output. */
@@ -362,11 +369,197 @@ static void foretell_decodes(void)
         }
         for (size_t k = 0; k < COUNT(out); k++)
             out[k] = UNTOUCHED;
-        int32_t returned =
-            tikuwero_decode(altered(c), c->record_len, best, c->best_len, back, c->back_len, out, c->out_len);
+        int32_t returned = tikuwero_decode(altered(c->record_len, c->changes), c->record_len, best, c->best_len, back,
+                                           c->back_len, out, c->out_len);
         as_foretold += held("decode", i, returned == c->returned && lent_as_foretold(c), returned);
     }
     conclude("decode", as_foretold, COUNT(decodes));
+}
+
+/* ---- tikuwero_most_units; of each record four answers: nuclei relaxed, nuclei strict, added stage relaxed, added strict */
+
+#define NO_BOUNDARY TIKUWERO_NO_BOUNDARY
+#define NUCLEI_ONLY(relaxed, strict) {relaxed, strict, NO_BOUNDARY, NO_BOUNDARY}
+#define REFUSED(number) {-(number), -(number), -(number), -(number)}
+
+/* Whether the four are given, for each of some words other than 0. */
+static size_t most_held(size_t i, const uint8_t *lent, size_t len, const int32_t most[4])
+{
+    static const uint32_t others[] = {1, 2, UINT32_C(0x80000000), UINT32_C(0xffffffff)};
+    size_t as_foretold = 0;
+    for (size_t k = 0; k < 4 * COUNT(others); k++) {
+        uint32_t other = others[k / 4];
+        int32_t returned = tikuwero_most_units(lent, len, k & 2 ? other : 0, k & 1 ? other : 0);
+        as_foretold += held("most_units", i, returned == most[k % 4], returned);
+    }
+    return as_foretold == 4 * COUNT(others);
+}
+
+/* The sample, altered as for decoding. */
+struct altered_case {
+    size_t record_len;
+    struct change changes[CHANGES];
+    int32_t most[4];
+};
+
+static const struct altered_case alterations[] = {
+    {SAMPLE_BYTES, {{0}}, NUCLEI_ONLY(1, 1)},
+    {65536, {{0}}, NUCLEI_ONLY(1, 1)},
+    {0, {{0}}, REFUSED(TIKUWERO_STUB)},
+    {63, {{0}}, REFUSED(TIKUWERO_STUB)},
+    {65537, {{0}}, REFUSED(TIKUWERO_STUB)},
+    {SAMPLE_BYTES, {{1312, 4, 2}, {0, 1, 2}}, REFUSED(TIKUWERO_EDITION)},
+    {SAMPLE_BYTES, {{1316, 4, 2049}}, REFUSED(TIKUWERO_SIZE)},
+    {SAMPLE_BYTES, {{1356, 4, 0}}, REFUSED(TIKUWERO_SIZE)},
+    {SAMPLE_BYTES, {{1348, 4, 1}}, REFUSED(TIKUWERO_SIZE)},
+    {SAMPLE_BYTES, {{1320, 4, 1313}}, REFUSED(TIKUWERO_REACH)},
+    {SAMPLE_BYTES, {{0, 1, 2}}, REFUSED(TIKUWERO_TRACK)},
+    {SAMPLE_BYTES, {{28, 4, 4}}, REFUSED(TIKUWERO_TRACK)},
+    {SAMPLE_BYTES, {{104, 4, 15}}, REFUSED(TIKUWERO_TRACK)},
+    {SAMPLE_BYTES, {{84, 8, UINT64_C(0x7ff8000000000000)}, {1364, 4, 0}}, REFUSED(TIKUWERO_COST)},
+    {SAMPLE_BYTES, {{1364, 4, 0}}, REFUSED(TIKUWERO_BARE)},
+    {SAMPLE_BYTES, {{60, 4, 9}, {64, 4, 17}}, REFUSED(TIKUWERO_TWICE)},
+    {SAMPLE_BYTES, {{40, 4, 17}}, REFUSED(TIKUWERO_UNITS)},
+    {SAMPLE_BYTES, {{44, 1, 1}, {60, 4, 9}}, REFUSED(TIKUWERO_COLUMN)},
+    {SAMPLE_BYTES, {{46, 1, 1}}, NUCLEI_ONLY(1, 1)},
+};
+
+/* A record laid out here, with one column and one candidate, of 4 units. */
+struct frames {
+    size_t n;
+    uint32_t list[18];
+};
+
+struct laid_case {
+    struct mask mask;
+    struct frames nuclei, bounds, anchors, added_bounds;
+    uint32_t speech_start, speech_end;
+    int32_t most[4];
+};
+
+#define SIX_APART {0, 6, 12, 18, 24, 30, 36, 42, 48, 54, 60, 66, 72, 78, 84, 90, 96, 102}
+#define ONES {"1", 120}
+#define NO_ADDED {0}, {0}, 0, 24
+#define BOTH_STAGES {1, {1}}, {5, SIX_APART}, {2, {1, 7}}, {4, SIX_APART}
+
+static const struct laid_case laid_cases[] = {
+    /* the header's example, which stays first */
+    {{"1", 24}, {1, {1}}, {5, SIX_APART}, {1, {1}}, {0}, 0, 24, NUCLEI_ONLY(4, 1)},
+    {ONES, BOTH_STAGES, 0, 24, {4, 1, 3, 2}},
+    {ONES, {2, {1, 7}}, {4, SIX_APART}, {1, {1}}, {5, SIX_APART}, 0, 24, {3, 2, 4, 1}},
+    /* no speech; no nucleus; an anchor on an unmarked frame, and where the mask has ended; none within the mask */
+    {ONES, BOTH_STAGES, NONE, NONE, {4, 1, 3, 2}},
+    {ONES, {0}, {5, SIX_APART}, {2, {1, 7}}, {4, SIX_APART}, 0, 24, {4, 0, 3, 2}},
+    {{"111111101", 24}, BOTH_STAGES, 0, 24, {4, 1, 3, 1}},
+    {{"1", 7}, BOTH_STAGES, 0, 24, {4, 1, 3, 1}},
+    {{"1", 8}, BOTH_STAGES, 0, 24, {4, 1, 3, 2}},
+    {{"0", 24}, BOTH_STAGES, 0, 24, {4, 0, 3, 0}},
+    {{"1", 0}, BOTH_STAGES, NONE, NONE, {4, 0, 3, 0}},
+    /* the highest count */
+    {ONES, {0}, {16, SIX_APART}, NO_ADDED, NUCLEI_ONLY(15, 0)},
+    {ONES, {0}, {17, SIX_APART}, NO_ADDED, NUCLEI_ONLY(16, 0)},
+    {ONES, {0}, {18, SIX_APART}, NO_ADDED, NUCLEI_ONLY(16, 0)},
+    {ONES, {15, SIX_APART}, {18, SIX_APART}, NO_ADDED, NUCLEI_ONLY(16, 15)},
+    {ONES, {16, SIX_APART}, {18, SIX_APART}, NO_ADDED, NUCLEI_ONLY(16, 16)},
+    {ONES, {17, SIX_APART}, {18, SIX_APART}, NO_ADDED, NUCLEI_ONLY(16, 16)},
+    /* one boundary, and none */
+    {ONES, {1, {1}}, {1, {0}}, NO_ADDED, NUCLEI_ONLY(0, 0)},
+    {ONES, {1, {1}}, {0}, NO_ADDED, NUCLEI_ONLY(NO_BOUNDARY, NO_BOUNDARY)},
+    {ONES, {0}, {0}, {1, {1}}, {1, {4095}}, 0, 24, {NO_BOUNDARY, NO_BOUNDARY, 0, 0}},
+    /* units of 5, 6, 80 and 81 frames; boundaries past the mask */
+    {ONES, {1, {3}}, {2, {3, 8}}, NO_ADDED, NUCLEI_ONLY(0, 0)},
+    {ONES, {1, {3}}, {2, {3, 9}}, NO_ADDED, NUCLEI_ONLY(1, 1)},
+    {ONES, {1, {3}}, {2, {3, 83}}, NO_ADDED, NUCLEI_ONLY(1, 1)},
+    {ONES, {1, {3}}, {2, {3, 84}}, NO_ADDED, NUCLEI_ONLY(0, 0)},
+    {ONES, {1, {4015}}, {2, {4015, 4095}}, NO_ADDED, NUCLEI_ONLY(1, 0)},
+    /* anchors on the first boundary of a unit and on the last; two in a unit, then one of them unmarked */
+    {ONES, {1, {10}}, {2, {10, 20}}, NO_ADDED, NUCLEI_ONLY(1, 1)},
+    {ONES, {1, {20}}, {2, {10, 20}}, NO_ADDED, NUCLEI_ONLY(1, 0)},
+    {ONES, {2, {10, 20}}, {2, {10, 20}}, NO_ADDED, NUCLEI_ONLY(1, 1)},
+    {ONES, {1, {20}}, {3, {10, 20, 30}}, NO_ADDED, NUCLEI_ONLY(2, 1)},
+    {ONES, {2, {10, 19}}, {2, {10, 20}}, NO_ADDED, NUCLEI_ONLY(0, 0)},
+    {{"11111111110", 24}, {2, {9, 19}}, {2, {9, 20}}, NO_ADDED, NUCLEI_ONLY(1, 1)},
+    /* units with gaps between them, and over a boundary in their midst */
+    {ONES, {0}, {4, {0, 6, 7, 13}}, NO_ADDED, NUCLEI_ONLY(2, 0)},
+    {ONES, {0}, {4, {0, 6, 100, 106}}, NO_ADDED, NUCLEI_ONLY(2, 0)},
+    {ONES, {0}, {4, {0, 5, 10, 15}}, NO_ADDED, NUCLEI_ONLY(1, 0)},
+    {ONES, {0}, {5, {0, 5, 10, 15, 20}}, NO_ADDED, NUCLEI_ONLY(2, 0)},
+    {ONES, {2, {1, 13}}, {4, SIX_APART}, NO_ADDED, NUCLEI_ONLY(3, 2)},
+    {ONES, {3, {1, 7, 9}}, {4, SIX_APART}, NO_ADDED, NUCLEI_ONLY(2, 1)},
+};
+
+/* Where the sections stand, the mask before them; what is not written is 0. */
+enum {
+    NUCLEI_AT = 256,
+    BOUNDS_AT = 384,
+    ANCHORS_AT = 512,
+    ADDED_BOUNDS_AT = 640,
+    SCORES_AT = 768,
+    CANDIDATE_AT = 1024,
+    COSTS_AT = 1048,
+    TRAILER_AT = 2276,
+    LAID_BYTES = 2340
+};
+
+static void put_word(size_t at, size_t value)
+{
+    struct change word = {at, 4, value};
+    put(record, word);
+}
+
+/* A count and a pointer, from that word of the trailer on. */
+static void point(size_t word, size_t count, size_t at)
+{
+    put_word(TRAILER_AT + 4 * word, count);
+    put_word(TRAILER_AT + 4 * word + 4, TRAILER_AT - at);
+}
+
+static void put_frames(size_t word, const struct frames *frames, size_t at)
+{
+    point(word, frames->n, at);
+    for (size_t i = 0; i < frames->n; i++)
+        put_word(at + 4 * i, frames->list[i]);
+}
+
+static void lay_out(const struct laid_case *c)
+{
+    memset(record, 0, LAID_BYTES);
+    put_word(TRAILER_AT, 1);
+    point(1, c->mask.frames, 0);
+    filled(c->mask, record);
+    put_frames(3, &c->nuclei, NUCLEI_AT);
+    put_frames(5, &c->bounds, BOUNDS_AT);
+    put_frames(7, &c->anchors, ANCHORS_AT);
+    put_frames(9, &c->added_bounds, ADDED_BOUNDS_AT);
+    point(11, 1, SCORES_AT);
+    point(13, 1, CANDIDATE_AT);
+    put_word(CANDIDATE_AT + 4, 4);
+    put_word(TRAILER_AT + 60, TRAILER_AT - COSTS_AT);
+    put_word(COSTS_AT + 20, c->speech_start);
+    put_word(COSTS_AT + 24, c->speech_end);
+}
+
+/* Decoding has no path for the 4 units of the header's example. */
+static size_t example_held(void)
+{
+    lay_out(&laid_cases[0]);
+    int32_t returned = tikuwero_decode(record, LAID_BYTES, best, CELLS, back, CELLS, out, TIKUWERO_MAX_OUT);
+    int none = out[TIKUWERO_ENTRY_PASS] == TIKUWERO_NO_PATH && out[TIKUWERO_ENTRY_COUNT] == 4;
+    return held("most_units, its example decoded", 0, returned == 1 && none, returned);
+}
+
+static void foretell_most_units(void)
+{
+    size_t as_foretold = example_held();
+    for (size_t i = 0; i < COUNT(alterations); i++) {
+        const struct altered_case *c = &alterations[i];
+        as_foretold += most_held(i, altered(c->record_len, c->changes), c->record_len, c->most);
+    }
+    for (size_t i = 0; i < COUNT(laid_cases); i++) {
+        lay_out(&laid_cases[i]);
+        as_foretold += most_held(COUNT(alterations) + i, record, LAID_BYTES, laid_cases[i].most);
+    }
+    conclude("most_units", as_foretold, 1 + COUNT(alterations) + COUNT(laid_cases));
 }
 
 /* ---- the words */
@@ -384,7 +577,8 @@ static void foretell_words(void)
         as_foretold += strcmp(tikuwero_pass_word(i), passes[i]) == 0;
     as_foretold += tikuwero_refusal_word(0) == NULL && tikuwero_refusal_word(5) == NULL;
     as_foretold += tikuwero_refusal_word(-12) == NULL && tikuwero_pass_word(6) == NULL;
-    conclude("words", as_foretold, 19);
+    as_foretold += tikuwero_refusal_word(TIKUWERO_NO_BOUNDARY) == NULL;
+    conclude("words", as_foretold, 20);
 }
 
 int main(void)
@@ -398,6 +592,7 @@ int main(void)
     foretell_joins();
     foretell_tails();
     foretell_decodes();
+    foretell_most_units();
     foretell_words();
     return missed != 0;
 }

@@ -30,6 +30,6 @@ for listing in listing listing_2021 listing_2024; do
     "$built/$listing" <crates/listing/stdin | cmp - crates/listing/stdout
     "$built/$listing" </dev/null | cmp - examples/stub.listing
 done
-"$built/calls" | cmp - examples/calls.out
+"$built/calls" <crates/listing/stdin | cmp - examples/calls.out
 "$built/foretold" <crates/listing/stdin
 echo "examples: what they print is as expected"

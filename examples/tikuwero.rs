@@ -1,4 +1,4 @@
-//! The five calls of `include/tikuwero.h` as safe Rust, to be taken over as it stands: no call can be misused, and none
+//! The six calls of `include/tikuwero.h` as safe Rust, to be taken over as it stands: no call can be misused, and none
 //! allocates. The header says what each answers. Link with `-l static=tikuwero`.
 
 #![allow(dead_code)] // a caller need not use all of it
@@ -8,10 +8,12 @@ use core::ops::Deref;
 /// Sizes, in elements, as in the header.
 pub const MAX_RECORD: usize = 65_536;
 pub const MAX_CANDIDATES: usize = 16;
+pub const MAX_UNITS: usize = 16;
 pub const MAX_FRAMES: usize = 64;
 const WORK_CELLS: usize = 1088;
 const ENTRY_WORDS: usize = 52;
 const NONE: u32 = u32::MAX;
+const NO_BOUNDARY: u32 = i32::MAX as u32;
 
 mod c {
     unsafe extern "C" {
@@ -24,6 +26,12 @@ mod c {
             back_len: usize,
             out: *mut u32,
             out_len: usize,
+        ) -> i32;
+        pub fn tikuwero_most_units(
+            record: *const u8,
+            record_len: usize,
+            stage: u32,
+            strict: u32,
         ) -> i32;
         pub fn tikuwero_rate_s(frames: *const u32, n: usize, default_s: f64, rate: *mut f64)
             -> i32;
@@ -246,6 +254,52 @@ pub struct Unit {
     pub start: u32,
     pub end: u32,
     pub row: Option<u32>,
+}
+
+/// What a path goes over: the nuclei and the boundaries, or the added anchors and boundaries.
+#[derive(Clone, Copy, Debug, PartialEq, Eq)]
+pub enum Stage {
+    Nuclei,
+    Added,
+}
+
+/// How many anchors a unit of a path holds.
+#[derive(Clone, Copy, Debug, PartialEq, Eq)]
+pub enum Strictness {
+    /// None or one.
+    Relaxed,
+    /// Exactly one.
+    Strict,
+}
+
+/// How many units would have fitted.
+#[derive(Clone, Copy, Debug, PartialEq, Eq)]
+pub enum MostUnits {
+    /// The stage has no boundaries, and so no path.
+    NoBoundary,
+    /// The most that a path has; `MAX_UNITS` is that many or more.
+    Units(usize),
+}
+
+/// The most units of a path in one stage of the record, whether or not decoding would search there.
+pub fn most_units(
+    record: &[u8],
+    stage: Stage,
+    strictness: Strictness,
+) -> Result<MostUnits, Refusal> {
+    // SAFETY: a slice.
+    let returned = unsafe {
+        c::tikuwero_most_units(
+            record.as_ptr(),
+            record.len(),
+            u32::from(stage == Stage::Added),
+            u32::from(strictness == Strictness::Strict),
+        )
+    };
+    answered(returned).map(|most| match most {
+        NO_BOUNDARY => MostUnits::NoBoundary,
+        units => MostUnits::Units(units as usize),
+    })
 }
 
 /// The speaking rate in seconds per syllable.

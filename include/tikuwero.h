@@ -1,5 +1,5 @@
-/* Tikuwero: the syllable decoder of a pocket trainer, and four calls on marks, spans and speaking
- * rate.
+/* Tikuwero: the syllable decoder of a pocket trainer, a call that says how many units would have
+ * fitted, and four calls on marks, spans and speaking rate.
  *
  * What each call returns, and what it leaves in the caller's memory, is proved for every input
  * (crates/tikuwero/specs), byte for byte but for one thing: of a double that held a NaN and that the
@@ -13,15 +13,15 @@
  *   - memory that a call writes overlaps nothing else that is lent to the same call, and nobody
  *     else uses what is lent until the call returns.
  *
- * Every other input is answered. A value is 0 or more. A refusal is minus its number, -1 to -11
- * (TIKUWERO_STUB and those after it); then all lent memory keeps its bytes (a NaN stays a NaN). The
- * lowest number that applies is given, save that tikuwero_decode tests 8, 9 and 10 candidate by
- * candidate.
+ * Every other input is answered. A value is 0 or more, TIKUWERO_NO_BOUNDARY too. A refusal is minus
+ * its number, -1 to -11 (TIKUWERO_STUB and those after it); then all lent memory keeps its bytes (a
+ * NaN stays a NaN). The lowest number that applies is given, save that of a record 8, 9 and 10 are
+ * tested candidate by candidate.
  *
  * No call allocates or keeps anything: there is no heap and no static variable, so that calls on
  * different memory may run at the same time. The archive needs memcpy and memset of the C library
- * and nothing else. tikuwero_decode takes up to 12,856 bytes of stack on x86-64, whatever the record
- * (measured, not proved).
+ * and nothing else. On x86-64 tikuwero_decode takes up to 12,232 bytes of stack and
+ * tikuwero_most_units 4,120, whatever the record (measured, not proved).
  *
  * A frame is 10 ms. A mask has a byte for each frame, 1 where the frame has the mark and else 0; a
  * frame past the mask's length has no mark. start..end are the frames from start up to but not
@@ -77,7 +77,7 @@ static inline const char *tikuwero_refusal_word(int32_t returned)
 /* Sizes, in elements. */
 #define TIKUWERO_MAX_RECORD 65536  /* bytes of a record */
 #define TIKUWERO_MAX_CANDIDATES 16 /* candidates of a record */
-#define TIKUWERO_MAX_UNITS 16      /* units of a candidate */
+#define TIKUWERO_MAX_UNITS 16      /* units of a candidate; tikuwero_most_units counts up to it */
 #define TIKUWERO_WORK_CELLS 1088   /* cells of each work area */
 #define TIKUWERO_ENTRY_WORDS 52    /* words of an entry */
 #define TIKUWERO_MAX_OUT (TIKUWERO_MAX_CANDIDATES * TIKUWERO_ENTRY_WORDS)
@@ -137,6 +137,40 @@ static inline const char *tikuwero_pass_word(uint32_t pass)
  * M * TIKUWERO_ENTRY_WORDS; TIKUWERO_MAX_OUT words are enough for every record. */
 int32_t tikuwero_decode(const uint8_t *record, size_t record_len, double *best, size_t best_len,
                         uint32_t *back, size_t back_len, uint32_t *out, size_t out_len);
+
+/* What tikuwero_most_units returns for a stage without boundaries; no count is as high. */
+#define TIKUWERO_NO_BOUNDARY INT32_MAX
+
+/* How many units would have fitted: the most that a path in one stage of a record has. A coach that
+ * reads "none" can tell by it whether fewer syllables were heard than the word has.
+ *
+ * stage is 0 for the nuclei's stage, and every other word for the added one; strict is 0 for
+ * relaxed, and every other word for strict. No word is refused. docs/FORMAT.md has the lists of the
+ * two stages and, as "What decoding looks for", their paths. In short:
+ *
+ *   a path    starts at any boundary of the stage, goes on to later ones, by units or without,
+ *             and may end at any;
+ *   a unit    goes to a later boundary 6 to 80 frames on. Strict, it holds exactly one of the
+ *             stage's anchors, and relaxed, none or one;
+ *   it holds  the anchors from its first boundary up to but not including its last, but only those
+ *             that are marked in the record's mask.
+ *
+ * Returns the number of units, 0 to TIKUWERO_MAX_UNITS. A path with so many exists and, below
+ * TIKUWERO_MAX_UNITS, none with more; TIKUWERO_MAX_UNITS itself reads "that many or more". For each
+ * smaller number there is a path too. One boundary alone gives 0. Where the stage has none, as the
+ * added stage of a record without added anchors, there is no path: TIKUWERO_NO_BOUNDARY.
+ *
+ * It is all one whether decoding would search that stage in that way: speech edges, whether there
+ * is a nucleus in the mask, the candidates and the other stage play no part in the count. So
+ * decoding can have no path for k units where this call says k or more. With 24 frames, all marked,
+ * speech 0..24, nucleus 1, boundaries 0, 6, 12, 18, 24, the added anchor 1 and no added boundaries,
+ * a candidate of 4 units gets TIKUWERO_NO_PATH, for with added anchors there is no pass
+ * nuclei-relaxed. This call says 4 for the nuclei relaxed, 1 for the nuclei strict and
+ * TIKUWERO_NO_BOUNDARY for the added stage.
+ *
+ * Refuses with 1 to 10, as tikuwero_decode does, and never with 11: only the record is lent. */
+int32_t tikuwero_most_units(const uint8_t *record, size_t record_len, uint32_t stage,
+                            uint32_t strict);
 
 /* The speaking rate in seconds per syllable, from the frames of nuclei in any order, repeats kept.
  *

@@ -2,7 +2,8 @@
 //!
 //! bench                    the ratio ours/original for each record; the exit status is 1 if one is above its target
 //! bench print              the same, but the exit status is 0
-//! bench SIDE RECORD COUNT  `ours` or `original` on `typical`, `maximal` or `heaviest`, COUNT times, for a profiler
+//! bench SIDE RECORD COUNT  `ours` or `original` on `typical`, `maximal` or `heaviest`, COUNT times, for a profiler; with `most_units` our
+//!                          call for the most units of the nuclei stage, strict
 //! bench growth             how cost grows, as a table
 
 mod growth;
@@ -10,6 +11,8 @@ mod records;
 mod sides;
 mod timing;
 
+use oracle::maker::encode;
+use oracle::ours::most_units_number;
 use oracle::phrase::Phrase;
 use sides::{agreed_passes, Original, Ours};
 use std::hint::black_box;
@@ -70,12 +73,18 @@ fn repeat(side: &str, record: &str, count: usize) {
                 black_box(original.run());
             }
         }
+        "most_units" => {
+            let record = encode(&phrase);
+            for _ in 0..count {
+                black_box(most_units_number(&record, 0, 1));
+            }
+        }
         _ => usage(),
     }
 }
 
 fn usage() -> ! {
-    eprintln!("bench [print | growth | ours RECORD COUNT | original RECORD COUNT]; RECORD: typical, maximal, heaviest");
+    eprintln!("bench [print | growth | SIDE RECORD COUNT]; SIDE: ours, original, most_units; RECORD: typical, maximal, heaviest");
     exit(2);
 }
 

@@ -1,5 +1,6 @@
 //! Phrases of every kind that document 01 accepts: tiny to maximal, ties likely, both zeros, subnormals, negative
-//! figures, frames past the mask, nuclei on boundaries, no speech, with and without an added stage, sums beyond the clamp.
+//! figures, frames past the mask, nuclei on boundaries, no speech, with and without an added stage, sums beyond the clamp. And
+//! phrases in which many units fit.
 
 use crate::phrase::Phrase;
 use crate::random::Random;
@@ -171,5 +172,75 @@ pub fn phrase(r: &mut Random, kind: Kind) -> Phrase {
         unvoiced: score(r, limit),
         speech,
         durations: [table(r), table(r)],
+    }
+}
+
+/// A stage in which up to some twenty units fit: boundaries mostly 6 frames apart or a few more, and anchors in many of the stretches
+/// between them, now and then two in one.
+fn chain(r: &mut Random, most_anchors: usize) -> (Vec<u32>, Vec<u32>) {
+    let (barred, empty) = (r.pick(&[3, 12, 12, 60]), r.pick(&[2, 6, 60]));
+    let mut bounds = vec![r.below(9) as u32];
+    let mut anchors = Vec::new();
+    for _ in 0..r.below(27) {
+        let step = if r.once_in(barred) {
+            r.pick(&[1, 5, 80, 81])
+        } else {
+            r.pick(&[6, 6, 7, 9])
+        };
+        let from = bounds[bounds.len() - 1];
+        bounds.push(from + step);
+        if !r.once_in(empty) {
+            anchors.push(from + r.below(step as usize) as u32);
+        }
+        if step > 1 && r.once_in(4 * barred) {
+            anchors.extend([from, from + step - 1]);
+        }
+    }
+    anchors.sort_unstable();
+    anchors.dedup();
+    anchors.truncate(most_anchors);
+    (bounds, anchors)
+}
+
+/// A phrase whose stages have from no units to more than 16, each stage with its own. How many fit does not hang on the figures, which
+/// are all 0; mostly the mask reaches past the last anchor.
+pub fn many_units(r: &mut Random) -> Phrase {
+    let (mut boundaries, nuclei) = chain(r, 32);
+    let (mut added, mut anchors) = chain(r, 64);
+    for bounds in [&mut boundaries, &mut added] {
+        if r.once_in(16) {
+            bounds.clear();
+        }
+    }
+    if anchors.is_empty() || r.once_in(8) {
+        (added, anchors) = (Vec::new(), Vec::new());
+    }
+    let f = r.pick(&[60, 250, 250, 800]);
+    let quiet = r.pick(&[0, 0, 0, 30]);
+    let mask = (0..f).map(|_| quiet == 0 || !r.once_in(quiet)).collect();
+    Phrase {
+        mask,
+        columns: 1,
+        scores: vec![vec![0.0]; nuclei.len() + anchors.len()],
+        nuclei,
+        boundaries,
+        anchors,
+        added,
+        candidates: vec![(1, vec![0])],
+        per_frame: 0.0,
+        insertion_llr: 0.0,
+        unvoiced: 0.0,
+        speech: (!r.once_in(4)).then_some((0, 1)),
+        durations: [[0.0; 75]; 2],
+    }
+}
+
+/// An added stage, where there is one, of the same lists as the nuclei stage.
+pub fn share_stages(p: &mut Phrase) {
+    if !p.anchors.is_empty() && !p.nuclei.is_empty() {
+        p.scores.truncate(p.nuclei.len());
+        p.scores.extend(p.scores.clone());
+        p.anchors = p.nuclei.clone();
+        p.added = p.boundaries.clone();
     }
 }

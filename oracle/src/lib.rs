@@ -14,6 +14,7 @@ pub mod every;
 pub mod generate;
 pub mod listing;
 pub mod maker;
+pub mod most_units;
 pub mod ours;
 pub mod parts;
 pub mod phrase;

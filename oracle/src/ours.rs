@@ -1,5 +1,7 @@
 //! Our side, through the C interface: every lent buffer stands between red zones, so that a write outside would be seen.
 
+use crate::most_units::{Answer, Most, CAP};
+
 /// What the two work areas and the output have at least.
 pub const WORK_CELLS: usize = 1088;
 pub const ENTRY_WORDS: usize = 52;
@@ -48,6 +50,7 @@ extern "C" {
         vowel_speech: *const u8,
         v: usize,
     ) -> i32;
+    fn tikuwero_most_units(record: *const u8, record_len: usize, stage: u32, strict: u32) -> i32;
 }
 
 /// A bare call of `tikuwero_decode` with the buffers lent: M, or minus the number of the refusal.
@@ -227,5 +230,27 @@ pub fn creaky_tail(
         Err(-answer)
     } else {
         Ok(answer != 0)
+    }
+}
+
+/// A bare call of `tikuwero_most_units`: the number that it returns.
+pub fn most_units_number(record: &[u8], stage: u32, strict: u32) -> i32 {
+    // SAFETY: a slice.
+    unsafe { tikuwero_most_units(record.as_ptr(), record.len(), stage, strict) }
+}
+
+/// The most units of a path, or the number of the refusal. The record is lent in memory of just its length, and an error says that its
+/// bytes were changed, or that a number came back that the call never gives.
+pub fn most_units(record: &[u8], stage: u32, strict: u32) -> Result<Answer, String> {
+    let lent = record.to_vec();
+    let answer = most_units_number(&lent, stage, strict);
+    if lent != record {
+        return Err("the record's bytes were changed".into());
+    }
+    match answer {
+        i32::MAX => Ok(Ok(Most::NoPath)),
+        0.. if answer as u32 <= CAP => Ok(Ok(Most::Units(answer as u32))),
+        -11..=-1 => Ok(Err(-answer)),
+        _ => Err(format!("most_units returned {answer}")),
     }
 }

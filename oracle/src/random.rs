@@ -25,6 +25,12 @@ impl Random {
         self.below(n) == 0
     }
 
+    /// A word other than 0, on either side of where a reader might cut it short, or anything.
+    pub fn word_above_0(&mut self) -> u32 {
+        let any = (self.next() as u32).max(1);
+        self.pick(&[1, 2, 3, 0x100, 0x1_0000, 0x8000_0000, u32::MAX, any])
+    }
+
     pub fn pick<T: Copy>(&mut self, from: &[T]) -> T {
         from[self.below(from.len())]
     }

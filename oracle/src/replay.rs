@@ -1,11 +1,12 @@
 //! The stored sample that `crates/replay` replays: cases one after the other, in u32 words, little-endian, and bytes.
 //!
-//! A case has five words: the entry (1 `decode`, 2 `rate_s`, 3 `tbu_spans`, 4 `joins`, 5 `creaky_tail`), how many bytes follow, the
-//! number of the refusal or 0, what is returned where there is none, and how many words the call leaves in lent memory. Those words
-//! follow, and then the arguments. Of a record only those bytes are stored that differ from the records before it, in pieces, so that
-//! a damaged copy takes a few bytes.
+//! A case has five words: the entry (1 `decode`, 2 `rate_s`, 3 `tbu_spans`, 4 `joins`, 5 `creaky_tail`, 6 `most_units`), how many bytes
+//! follow, the number of the refusal or 0, what is returned where there is none, and how many words the call leaves in lent memory.
+//! Those words follow, and then the arguments. Of a record only those bytes are stored that differ from the records before it, in
+//! pieces, so that a damaged copy takes a few bytes, and a second call on a record none.
 
 use crate::calls::{Answer, Call};
+use crate::most_units::{self, Most};
 use crate::ours::{Decoded, ENTRY_WORDS};
 
 /// The longest record of a case, and how many equal bytes part two pieces at least.
@@ -15,7 +16,7 @@ const APART: usize = 8;
 pub struct Sample {
     pub bytes: Vec<u8>,
     /// of each entry how many cases there are, and how many of them are refused
-    counts: [(usize, usize); 6],
+    counts: [(usize, usize); 7],
     /// the records so far, each laid over those before it from the first byte on
     space: Vec<u8>,
 }
@@ -24,7 +25,7 @@ impl Default for Sample {
     fn default() -> Self {
         Sample {
             bytes: Vec::new(),
-            counts: [(0, 0); 6],
+            counts: [(0, 0); 7],
             space: vec![0; MOST],
         }
     }
@@ -36,11 +37,7 @@ impl Sample {
     pub fn record(&mut self, record: &[u8], lengths: (usize, usize, usize), decoded: &Decoded) {
         let (best, back, out) = lengths;
         let mut body = words(&[record.len(), best, back, out].map(|n| n as u32));
-        for (at, len) in pieces(&self.space, record) {
-            body.extend(words(&[at as u32, len as u32]));
-            body.extend(&record[at..at + len]);
-        }
-        self.space[..record.len()].copy_from_slice(record);
+        body.extend(self.lay(record));
         let entries = |w: Vec<u32>| ((w.len() / ENTRY_WORDS) as u32, w);
         self.case(1, body, &decoded.clone().map(entries));
     }
@@ -70,9 +67,45 @@ impl Sample {
         }
     }
 
+    /// The most units: the record's length, the stage word and the strictness word, and then the pieces as for decoding. What is
+    /// returned is the number that comes through the C interface.
+    pub fn most_units(
+        &mut self,
+        record: &[u8],
+        (stage, strict): (u32, u32),
+        answer: &most_units::Answer,
+    ) {
+        let mut body = words(&[record.len() as u32, stage, strict]);
+        body.extend(self.lay(record));
+        let returned = |most: &Most| match most {
+            Most::NoPath => i32::MAX as u32,
+            Most::Units(units) => *units,
+        };
+        let answer = answer.as_ref().map(|most| (returned(most), Vec::new()));
+        self.case(6, body, &answer.map_err(|number| *number));
+    }
+
+    /// Lays a record over those before it: of each piece that differs its place, its length and its bytes.
+    fn lay(&mut self, record: &[u8]) -> Vec<u8> {
+        let mut body = Vec::new();
+        for (at, len) in pieces(&self.space, record) {
+            body.extend(words(&[at as u32, len as u32]));
+            body.extend(&record[at..at + len]);
+        }
+        self.space[..record.len()].copy_from_slice(record);
+        body
+    }
+
     /// What `crates/replay` is to print.
     pub fn printed(&self) -> String {
-        let names = ["decode", "rate_s", "tbu_spans", "joins", "creaky_tail"];
+        let names = [
+            "decode",
+            "rate_s",
+            "tbu_spans",
+            "joins",
+            "creaky_tail",
+            "most_units",
+        ];
         let line = |(name, (n, refused)): (_, &(usize, usize))| {
             format!("{name}: {n} replayed, {refused} of them refused, {n} agree\n")
         };

@@ -1,8 +1,6 @@
-// Decoding. After the result words come the lengths of the record, of the two work areas and of the output, and the record's pieces. A
-// piece is a place, a length and so many bytes, laid over the record of the case before.
+// Decoding. After the result words come the lengths of the record, of the two work areas and of the output, and the record's pieces.
 
 use crate::input::Answer;
-use crate::input::byte;
 use crate::input::least;
 use crate::input::word;
 use crate::marks::FLOAT_MARK;
@@ -10,8 +8,8 @@ use crate::marks::MARK;
 use crate::marks::floats_not_cleared;
 use crate::marks::not_cleared;
 use crate::marks::not_written;
+use crate::pieces::lay;
 use tikuwero::tikuwero_decode;
-ghost use Prim.Native.Nat.{_+_, _^_, _<_};
 
 const WORK_CELLS: usize = 1088;
 
@@ -19,33 +17,6 @@ const WORK_CELLS: usize = 1088;
 const MOST_WORK: usize = 1104;
 
 const MOST_OUT: usize = 848;
-
-fn put(record: &mut [u8], at: usize, value: u8) {
-    if at < record.len() {
-        record[at] = value;
-    }
-}
-
-fn lay_piece(body: &[u8], from: usize, len: usize, record: &mut [u8], place: usize)
-    requires { ⌜ (from + len < 2 ^ 64) × (place + len < 2 ^ 64) ⌝ }
-{
-    let mut i = 0;
-    while i < len {
-        put(record, place + i, byte(body, from + i));
-        i += 1;
-    }
-}
-
-// The pieces from a place up to the end of the case.
-fn lay(body: &[u8], from: usize, record: &mut [u8]) {
-    let mut at = from;
-    while at < body.len() {
-        let place = word(body, at) as usize;
-        let len = word(body, at + 4) as usize;
-        lay_piece(body, at + 8, len, record, place);
-        at = at + 8 + len;
-    }
-}
 
 // Decodes with buffers of the case's lengths, and compares what is returned and every cell.
 fn agrees(

@@ -15,11 +15,14 @@ pub(crate) struct Answer {
     pub(crate) words: u32,
 }
 
-// A number as it stands, or as one that no call returns.
-fn few(n: u32) -> u32
-    ensures { λ r. ⌜ r ≤ 1000 ⌝ }
+// The highest number that a call returns.
+const HIGHEST: u32 = 2147483647;
+
+// A number as it stands, or the highest.
+fn returnable(n: u32) -> u32
+    ensures { λ r. ⌜ r ≤ 2147483647 ⌝ }
 {
-    if n < 1000 { n } else { 1000 }
+    if n < HIGHEST { n } else { HIGHEST }
 }
 
 impl Answer {
@@ -30,9 +33,9 @@ impl Answer {
     // As the C interface returns it.
     pub(crate) fn status(self) -> i32 {
         if self.refusal == 0 {
-            few(self.returned) as i32
+            returnable(self.returned) as i32
         } else {
-            -(few(self.refusal) as i32)
+            -(returnable(self.refusal) as i32)
         }
     }
 }

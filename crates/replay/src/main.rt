@@ -1,5 +1,5 @@
-// Replays a stored sample of the original's answers through the C interface. Standard input holds the cases, with what the original
-// answered for each; from `oracle/`, this made it:
+// Replays a stored sample through the C interface. Standard input holds the cases, with what the original answers for each or, for the
+// most units, what longest paths over counts give; from `oracle/`, this made it:
 //
 //     cargo run --release --bin replay_sample -- 1000 20261116 > ../crates/replay/stdin
 //
@@ -7,9 +7,11 @@
 // the sample, and how many agree: in what is returned, in every word that is written, and in every lent cell that is not.
 
 mod calls;
+mod counting;
 mod decoding;
 mod input;
 mod marks;
+mod pieces;
 
 use crate::input::Answer;
 use crate::input::word;
@@ -87,6 +89,7 @@ fn replay(entry: u32, body: &[u8], answer: Answer, record: &mut [u8]) -> bool {
         3 => calls::tbu_spans(body, answer),
         4 => calls::joins(body, answer),
         5 => calls::creaky_tail(body, answer),
+        6 => counting::most_units(body, answer, record),
         _ => false,
     }
 }
@@ -156,11 +159,12 @@ fn print_line(name: &[u8], replayed: u32, refused: u32, agree: u32) {
 fn main() {
     let mut body = [0u8; MOST_BODY];
     let mut record = [0u8; MOST_RECORD];
-    let mut counts = [0u32; 18];
+    let mut counts = [0u32; 21];
     replay_all(&mut body, &mut record, &mut counts);
     print_line(b"decode", counts[3], counts[4], counts[5]);
     print_line(b"rate_s", counts[6], counts[7], counts[8]);
     print_line(b"tbu_spans", counts[9], counts[10], counts[11]);
     print_line(b"joins", counts[12], counts[13], counts[14]);
     print_line(b"creaky_tail", counts[15], counts[16], counts[17]);
+    print_line(b"most_units", counts[18], counts[19], counts[20]);
 }

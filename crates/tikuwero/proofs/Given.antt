@@ -1,7 +1,7 @@
 -- The variant that a `match` found says what the outcome is, and with it what the call promises.
 use Prim.Native.Nat.{ℕ}
 use mathlib.Core.List.{List}
-use mathlib.Core.Path.{_≡_, sym, ap, _∙_}
+use mathlib.Core.Path.{_≡_, sym, ap, subst₂, _∙_}
 use lib.Ieee.{Float}
 use lib.IntN.{ℤ}
 use Rattle.frames.specs.Outcome.{Outcome}
@@ -14,8 +14,13 @@ use Rattle.frames.specs.declared.list.Nearest.{Nearest}
 use Rattle.decoding.specs.Contract as Contract
 use Rattle.decoding.specs.Contract.{Decodes}
 use Rattle.decoding.specs.declared.answer.Decoded.{Decoded}
-use Rattle.tikuwero.specs.Status.{status}
-use Rattle.tikuwero.specs.Calls.{SpansCall, DecodeCall}
+use Rattle.record.specs.declared.read.Which.{Which}
+use Rattle.paths.specs.declared.passes.Strictness.{Strictness}
+use Rattle.most_units.specs.Answers as Most
+use Rattle.most_units.specs.Answers.{numberFor}
+use Rattle.most_units.specs.declared.answer.MostUnits.{MostUnits}
+use Rattle.tikuwero.specs.Status.{status, stageNamed, strictnessNamed}
+use Rattle.tikuwero.specs.Calls.{SpansCall, DecodeCall, MostUnitsCall}
 
 pub given : {A B : Type 0} (outcome : B → Outcome A) {answer variant : B} {o : Outcome A} → answer ≡ variant → outcome answer ≡ o → outcome variant ≡ o
 given outcome found told = sym (ap outcome found) ∙ told
@@ -46,4 +51,15 @@ decode-call {answer = answer} found number says =
       answer = answer;
       decodes = says;
       number = number ∙ ap (status (λ (entries : ℕ). entries)) (given Contract.outcome found (says .answered));
+    }
+
+pub most-units-call :
+    {bytes : List ℕ} {stage strict : ℕ} {which : Which} {strictness : Strictness} {answer variant : MostUnits} {returned : ℤ} →
+    which ≡ stageNamed stage → strictness ≡ strictnessNamed strict → answer ≡ variant → returned ≡ numberFor variant →
+    Most.Answers bytes which strictness answer → MostUnitsCall bytes stage strict returned
+most-units-call {bytes} {answer = answer} staged held found number says =
+    record {
+      answer = answer;
+      answers = subst₂ (λ (w : Which) (s : Strictness). Most.Answers bytes w s answer) staged held says;
+      number = number ∙ sym (ap numberFor found);
     }

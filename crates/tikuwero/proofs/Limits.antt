@@ -16,14 +16,18 @@ use Rattle.frames.specs.Outcome.{Outcome, accepted, refused, mostFrames}
 use Rattle.frames.proofs.Outcomes.{accepts-exactly}
 use Rattle.frames.proofs.Ascending.{ascending-le}
 use Rattle.spans.specs.Spans.{tbuSpansOf}
-use Rattle.limits.specs.Capacity.{mostCandidates}
+use Rattle.limits.specs.Capacity.{mostUnits, mostCandidates}
 use Rattle.limits.proofs.Editions.{moderate}
 use Rattle.record.specs.Layout.{layoutOf}
 use Rattle.record.specs.Meaning.{phraseOf}
 use Rattle.record.specs.Refusals.{numberOf, refusalWith}
 use Rattle.record.specs.declared.refusal.Refusal.{Refusal}
 use Rattle.record.specs.declared.refusal.Refusal.the-variants.{Stub, Edition, Size, Reach, Track, Cost, Bare, Twice, Units, Column, Desk}
-use Rattle.record.proofs.Accepted.{counts}
+use Rattle.record.specs.declared.read.Which.{Which}
+use Rattle.record.proofs.Accepted.{counts, own-moderate}
+use Rattle.paths.specs.declared.passes.Strictness.{Strictness}
+use Rattle.most_units.specs.Answers.{Answers, is-counted}
+use Rattle.most_units.specs.declared.answer.MostUnits.the-variants.{Units as Count}
 use Rattle.decoding.specs.Contract.{outcomeOf}
 use Rattle.decoding.proofs.Calls.{own-rules, candidates-counted}
 
@@ -55,6 +59,10 @@ entries-within bytes best back out told =
         subst (λ (m : ℕ). m ≤ mostCandidates) (sym (candidates-counted bytes))
         (le-trans (counts {bytes = bytes} {at = layoutOf bytes} (record { accepted = own-rules bytes best back out e; layout = refl }) .candidates) (moderate _ .candidates))
     go (some q) e = zero-le
+
+-- a count of units is at most the most units of an edition
+pub units-within : {bytes : List ℕ} {which : Which} {strictness : Strictness} {units : ℕ} → Answers bytes which strictness (Count units) → units ≤ mostUnits
+units-within {bytes} (is-counted own most) = le-trans (most .capped) (own-moderate bytes .units)
 
 pub number-within : (q : Refusal) → numberOf q ≤ 11
 number-within Stub = omega arith

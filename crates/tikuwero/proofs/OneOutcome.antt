@@ -1,7 +1,7 @@
 -- Each call from C has exactly one outcome that meets its contract: the number returned, and what is then in the caller's memory.
 use Prim.Native.Nat.{ℕ}
 use mathlib.Core.List.{List}
-use mathlib.Core.Path.{_≡_, refl, sym, _∙_}
+use mathlib.Core.Path.{_≡_, refl, sym, ap, _∙_}
 use lib.IntN.{ℤ}
 use lib.Ieee.{Float}
 use lib.ListN.{length}
@@ -12,8 +12,10 @@ use Rattle.spans.specs.Spans.{tbuSpansOf, wordsOf, spansOf, written}
 use Rattle.evidence.specs.Joins.{joinsOf}
 use Rattle.evidence.specs.CreakyTail.{creakyTailOf}
 use Rattle.decoding.proofs.OneOutcome.{some-outcome, one-outcome, together}
-use Rattle.tikuwero.specs.Status.{status, stored, flag, edgeFlags, frameOf}
-use Rattle.tikuwero.specs.Calls.{DecodeCall, RateCall, SpansCall}
+use Rattle.most_units.specs.Answers.{numberFor}
+use Rattle.most_units.proofs.OneAnswer.{one-answer}
+use Rattle.tikuwero.specs.Status.{status, stored, flag, edgeFlags, frameOf, stageNamed, strictnessNamed}
+use Rattle.tikuwero.specs.Calls.{DecodeCall, RateCall, SpansCall, MostUnitsCall}
 
 pub one-decode-call :
     (bytes : List ℕ) (best : List Float) (back out : List ℕ) →
@@ -50,3 +52,12 @@ pub one-tail-call :
     (start end next : ℕ) (pitched vowel : List ℕ) →
     ExactlyOne (λ (returned : ℤ). returned ≡ status flag (creakyTailOf start end (frameOf next) pitched vowel))
 one-tail-call start end next pitched vowel = one-value (status flag (creakyTailOf start end (frameOf next) pitched vowel))
+
+pub one-most-units-call : (bytes : List ℕ) (stage strict : ℕ) → ExactlyOne (λ (returned : ℤ). MostUnitsCall bytes stage strict returned)
+one-most-units-call bytes stage strict =
+    let one = one-answer bytes (stageNamed stage) (strictnessNamed strict) in
+    record {
+      some-outcome = (_, record { answer = one .some-outcome .0; answers = one .some-outcome .1; number = refl });
+      one-outcome =
+          λ v w p q. p .number ∙ ap numberFor (one .one-outcome (p .answer) (q .answer) (p .answers) (q .answers)) ∙ sym (q .number);
+    }

@@ -1,4 +1,5 @@
--- What the calls that write through a pointer promise: the number that is returned, and what is then in the caller's memory.
+-- What calls promise of which one number says not all: the number that is returned, and what is then in the caller's memory or what the
+-- number stands for.
 use Prim.Native.Nat.{ℕ}
 use mathlib.Core.List.{List}
 use mathlib.Core.Path.{_≡_}
@@ -11,7 +12,9 @@ use Rattle.record.specs.Refusals.{refusalWith}
 use Rattle.record.specs.Meaning.{phraseOf}
 use Rattle.decoding.specs.Contract.{Decodes, outcomeOf}
 use Rattle.decoding.specs.declared.answer.Decoded.{Decoded}
-use Rattle.tikuwero.specs.Status.{status, stored}
+use Rattle.most_units.specs.Answers.{Answers, numberFor}
+use Rattle.most_units.specs.declared.answer.MostUnits.{MostUnits}
+use Rattle.tikuwero.specs.Status.{status, stored, stageNamed, strictnessNamed}
 
 -- `tikuwero_decode`: M; the answer that the number stands for, and all that is lent, are as decoding promises
 pub record DecodeCall (bytes : List ℕ) (best : List Float) (back out : List ℕ) (returned : ℤ) (best′ : List Float) (back′ out′ : List ℕ) : Type 0 where
@@ -29,3 +32,9 @@ pub record RateCall (frames : List ℕ) (default before : Float) (returned : ℤ
 pub record SpansCall (nuclei bounds : List ℕ) (lo hi : ℕ) (before : List ℕ) (returned : ℤ) (after : List ℕ) : Type 0 where
   pub number : returned ≡ status (λ (spans : ℕ). spans) (tbuSpansOf nuclei bounds lo hi (length before))
   pub output : after ≡ written (tbuSpansOf nuclei bounds lo hi (length before)) (wordsOf (spansOf nuclei bounds lo hi)) before
+
+-- `tikuwero_most_units`: the number of the answer
+pub record MostUnitsCall (bytes : List ℕ) (stage strict : ℕ) (returned : ℤ) : Type 0 where
+  pub answer : MostUnits
+  pub answers : Answers bytes (stageNamed stage) (strictnessNamed strict) answer
+  pub number : returned ≡ numberFor answer

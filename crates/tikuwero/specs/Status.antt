@@ -1,9 +1,13 @@
--- One number for an entry's outcome, and the words that stand for a flag and for a missing frame.
+-- One number for an entry's outcome, and the words that stand for a flag, a missing frame, a stage and a strictness.
 use Prim.Native.Nat.{ℕ, _+_, _*_}
 use mathlib.Core.Bool.{Bool, cond}
 use lib.Dec.{eqb}
 use lib.IntN.{ℤ, pos, negℤ}
 use Rattle.limits.specs.Common.{absent}
+use Rattle.paths.specs.declared.passes.Strictness.{Strictness}
+use Rattle.paths.specs.declared.passes.Strictness.the-variants.{Strict, Relaxed}
+use Rattle.record.specs.declared.read.Which.{Which}
+use Rattle.record.specs.declared.read.Which.the-variants.{Nuclei, Count}
 use Rattle.frames.specs.Outcome.{Outcome, accepted, refused}
 use Rattle.evidence.specs.Joins.{Edges}
 use Rattle.frames.specs.declared.list.Nearest.{Nearest}
@@ -30,3 +34,11 @@ edgeFlags edges = flag (edges .start) + 2 * flag (edges .end)
 -- the next nucleus by its word, which may say that there is none
 abbrev pub frameOf : ℕ → Nearest
 frameOf word = cond (eqb word absent) None (At word)
+
+-- "word 0 means the nuclei stage, every other word the added one"
+abbrev pub stageNamed : ℕ → Which
+stageNamed word = cond (eqb word 0) Nuclei Count
+
+-- likewise a strictness: 0 relaxed, else strict
+abbrev pub strictnessNamed : ℕ → Strictness
+strictnessNamed word = cond (eqb word 0) Relaxed Strict

@@ -5,12 +5,16 @@ mod words;
 
 use crate::words::flag;
 use crate::words::frame_of;
+use crate::words::stage_named;
+use crate::words::strictness_named;
 use decode::decode::decode;
 use decoding::answer::Decoded;
 use evidence::evidence::TailAnswer;
 use evidence::evidence::creaky_tail;
 use evidence::joins::JoinsAnswer;
 use evidence::joins::joins;
+use most_units::answer::MostUnits;
+use most_units::most::most_units;
 use rate::duration::RateAnswer;
 use rate::duration::rate_s;
 use spans::spans::SpansAnswer;
@@ -19,7 +23,10 @@ ghost use mathlib.Core.Path.{_≡_};
 ghost use Rattle.evidence.specs.Joins.{joinsOf};
 ghost use Rattle.evidence.specs.CreakyTail.{creakyTailOf};
 ghost use Rattle.tikuwero.specs.Status.{status, flag, edgeFlags, frameOf};
-ghost use Rattle.tikuwero.specs.Calls.{DecodeCall, RateCall, SpansCall};
+ghost use Rattle.tikuwero.specs.Calls.{DecodeCall, RateCall, SpansCall, MostUnitsCall};
+
+// What "no path" is returned as, the highest `i32`.
+const NO_PATH: i32 = 2147483647;
 
 // The number of entries in `out`.
 #[no_mangle]
@@ -102,5 +109,17 @@ pub extern "C" fn tikuwero_creaky_tail(
         TailAnswer::Creaky(creaky) => flag(creaky) as i32,
         TailAnswer::Size => -3,
         TailAnswer::Track => -5,
+    }
+}
+
+// The most units of a path in a stage, or the number of "no path".
+#[no_mangle]
+pub extern "C" fn tikuwero_most_units(record: &[u8], stage: u32, strict: u32) -> i32
+    ensures { λ r. ⌜ MostUnitsCall (now («record» .entry)) stage strict r ⌝ }
+{
+    match most_units(record, stage_named(stage), strictness_named(strict)) {
+        MostUnits::NoPath => NO_PATH,
+        MostUnits::Units(units) => units as i32,
+        MostUnits::Refused(refusal) => -(refusal.number() as i32),
     }
 }

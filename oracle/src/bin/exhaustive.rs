@@ -1,13 +1,16 @@
 //! exhaustive [small]: our side through the C interface against the original on all small inputs of each kind below, none of
-//! them drawn. Prints for each kind how many were compared and how many differ; the exit status is 0 only for none.
+//! them drawn; the most units against all paths written out, and in changed samples against longest paths over counts. Prints for
+//! each kind how many were compared and how many differ; the exit status is 0 only for none.
 //! `small` goes through fewer, for a run under valgrind.
 
 use oracle::every::{lists, lists_of, picks};
 use oracle::maker::{encode, sample};
+use oracle::most_units;
 use oracle::ours::{self, Desk, ENTRY_WORDS, WORK_CELLS};
 use oracle::phrase::Phrase;
-use oracle::tally::{conclude, Answers, Tally};
+use oracle::tally::{conclude, Answers, MostUnits, Tally};
 use oracle::wanted;
+use std::mem::take;
 use std::process::exit;
 
 /// Frames on both sides of the highest that is allowed.
@@ -193,27 +196,146 @@ fn samples() -> [Vec<u8>; 2] {
     [encode(&sample()), encode(&added)]
 }
 
-/// Every byte of the samples with each of these values; the samples cut at either end; and lent buffers of each length
-/// around the limits.
+/// The record with each byte set to each of these values, and cut at either end.
+fn changes(record: &[u8], values: &[u8], mut each: impl FnMut(&[u8])) {
+    let mut changed = record.to_vec();
+    for at in 0..record.len() {
+        for &value in values {
+            changed[at] = value;
+            each(&changed);
+        }
+        changed[at] = record[at];
+        // in memory of their own, so that valgrind sees a read past the end
+        for cut in [&record[at..], &record[..at]] {
+            each(&cut.to_vec());
+        }
+    }
+}
+
+/// The samples changed, and with lent buffers of each length around the limits.
 fn changed_samples(records: &mut Records, values: &[u8]) {
     let out = 2 * ENTRY_WORDS;
     for record in samples() {
-        let mut changed = record.clone();
-        for at in 0..record.len() {
-            for &value in values {
-                changed[at] = value;
-                records.decode(&changed, WORK_CELLS, WORK_CELLS, out);
-            }
-            changed[at] = record[at];
-            // in memory of their own, so that valgrind sees a read past the end
-            for cut in [&record[at..], &record[..at]] {
-                records.decode(&cut.to_vec(), WORK_CELLS, WORK_CELLS, out);
-            }
-        }
+        changes(&record, values, |changed| {
+            records.decode(changed, WORK_CELLS, WORK_CELLS, out)
+        });
         let cells = [0, WORK_CELLS - 1, WORK_CELLS, WORK_CELLS + 1];
         for (&best, &back) in pairs(&cells, &cells) {
             (0..=out + 1).for_each(|out| records.decode(&record, best, back, out));
         }
+    }
+}
+
+/// Stage words and strictness words.
+const FOUR_PAIRS: [(u32, u32); 4] = [(0, 0), (0, 1), (1, 0), (1, 1)];
+
+/// A stage by itself: its boundaries and its anchors.
+type Stage<'a> = (&'a [u32], &'a [u32]);
+
+fn two_stage_phrase(mask: &[bool], nuclei: Stage, added: Stage) -> Phrase {
+    Phrase {
+        mask: mask.to_vec(),
+        nuclei: nuclei.1.to_vec(),
+        boundaries: nuclei.0.to_vec(),
+        anchors: added.1.to_vec(),
+        added: added.0.to_vec(),
+        columns: 1,
+        scores: vec![vec![0.0]; nuclei.1.len() + added.1.len()],
+        candidates: vec![(1, vec![0])],
+        per_frame: 0.0,
+        insertion_llr: 0.0,
+        unvoiced: 0.0,
+        speech: None,
+        durations: [[0.0; 75]; 2],
+    }
+}
+
+/// Calls for the most units: the numbers of the kind that is under way, and the answers of all kinds.
+#[derive(Default)]
+struct Fitting {
+    tally: Tally,
+    answers: MostUnits,
+}
+
+impl Fitting {
+    fn record(
+        &mut self,
+        record: &[u8],
+        (stage, strict): (u32, u32),
+        wanted: Result<most_units::Answer, String>,
+    ) {
+        if let Ok(answer) = &wanted {
+            self.answers.count(stage, strict, answer);
+        }
+        let got = ours::most_units(record, stage, strict);
+        self.tally.compare(&wanted, &got, || {
+            format!("most_units of {record:?}, stage {stage}, strict {strict}")
+        });
+    }
+
+    /// The stage as the nuclei stage and, where it has anchors, as the added one, beside another in which two units fit.
+    fn stage(&mut self, mask: &[bool], stage: Stage) {
+        let beside: Stage = (&[2, 10, 18], &[4, 12]);
+        let phrases = [
+            two_stage_phrase(mask, stage, beside),
+            two_stage_phrase(mask, beside, stage),
+        ];
+        let places = if stage.1.is_empty() { 1 } else { 2 };
+        for (p, word) in phrases[..places].iter().zip([0, 1]) {
+            let record = encode(p);
+            for strict in [0, 1] {
+                let most = most_units::by_all_paths(p, word, strict);
+                self.record(&record, (word, strict), most.map(Ok));
+            }
+        }
+    }
+
+    fn report(&mut self, kind: &str) -> usize {
+        let tally = take(&mut self.tally);
+        report(&format!("most_units, {kind}"), &tally)
+    }
+}
+
+/// Stages of boundaries 1 to 161 frames apart, on both sides of the limits of a unit, with anchors on boundaries and right before
+/// them, between them, past the mask and on a 0 byte of it.
+fn few_boundaries(fitting: &mut Fitting, most_boundaries: usize, most_anchors: usize) {
+    let mut silent_at_6 = vec![true; 162];
+    silent_at_6[6] = false;
+    let masks = [vec![true; 162], silent_at_6, vec![true; 81], vec![]];
+    let all_boundaries = picks(&[0, 5, 6, 11, 80, 81, 86, 161], most_boundaries);
+    let all_anchors = picks(
+        &[0, 4, 5, 6, 10, 50, 79, 80, 81, 85, 160, 161],
+        most_anchors,
+    );
+    for (mask, boundaries) in pairs(&masks, &all_boundaries) {
+        for anchors in &all_anchors {
+            fitting.stage(mask, (boundaries, anchors));
+        }
+    }
+}
+
+/// Stages whose neighbouring boundaries are just far enough apart that a unit takes in one stretch only, from 14 stretches to more
+/// than the cap, with an anchor in each, in all but one, and in one only.
+fn up_to_the_cap(fitting: &mut Fitting, most_stretches: u32) {
+    for stretches in 14..=most_stretches {
+        let boundaries: Vec<u32> = (0..=stretches).map(|i| 41 * i).collect();
+        let anchors: Vec<u32> = (0..stretches).map(|i| 41 * i + 40).collect();
+        let mask = vec![true; 41 * stretches as usize];
+        fitting.stage(&mask, (&boundaries, &anchors));
+        fitting.stage(&mask, (&boundaries, &anchors[1..]));
+        fitting.stage(&mask, (&boundaries, &anchors[..1]));
+    }
+}
+
+/// The samples changed, against longest paths over counts: refusals, and lists that were made shorter.
+fn changed_samples_fitting(fitting: &mut Fitting, values: &[u8]) {
+    for record in samples() {
+        changes(&record, values, |changed| {
+            for (stage, strict) in FOUR_PAIRS {
+                let wanted = most_units::wanted(changed, stage, strict);
+                fitting.record(changed, (stage, strict), Ok(wanted));
+            }
+        });
     }
 }
 
@@ -280,6 +402,19 @@ impl Size {
         changed_samples(&mut changed, &values);
         one.report("one stage") + two.report("two stages") + changed.report("changed samples")
     }
+
+    fn most_units(self) -> usize {
+        let values: Vec<u8> = (0..=u8::MAX).step_by(self.of(1, 85)).collect();
+        let mut fitting = Fitting::default();
+        few_boundaries(&mut fitting, self.of(5, 3), self.of(3, 2));
+        let few = fitting.report("few boundaries");
+        up_to_the_cap(&mut fitting, self.of(19, 17) as u32);
+        let cap = fitting.report("up to the cap");
+        changed_samples_fitting(&mut fitting, &values);
+        let changed = fitting.report("changed samples");
+        println!("most_units in all, {}", fitting.answers);
+        few + cap + changed
+    }
 }
 
 fn frames_below(end: usize) -> Vec<u32> {
@@ -297,5 +432,5 @@ fn main() {
         }
     };
     let size = Size { small };
-    conclude(size.marks() + size.rates_and_spans() + size.records());
+    conclude(size.marks() + size.rates_and_spans() + size.records() + size.most_units());
 }

@@ -1,18 +1,19 @@
 //! replay_sample COUNT SEED: writes to standard output the cases that `crates/replay` replays, with the original's answers. For each of
 //! COUNT phrases, tiny to maximal, there is its record, a damaged copy that is refused by the number whose turn it is, for every second
-//! one a damaged copy as it comes, and three calls of the other entries. On standard error stands what `crates/replay` is to print,
-//! and what the records hold.
+//! one a damaged copy as it comes, and three calls of the other entries. After each record come two calls for the most units in it, and
+//! at the end all four on each of some phrases in which many units fit. On standard error stands what `crates/replay` is to print, and
+//! what the records hold.
 
 use oracle::arguments::count_and_seed;
 use oracle::calls::Call;
 use oracle::damage::{damage, lengths};
-use oracle::generate::{phrase, Kind};
+use oracle::generate::{many_units, phrase, share_stages, Kind};
 use oracle::maker::{encode, encode_shared, sample};
+use oracle::most_units::{self, word_pairs};
 use oracle::ours::{Decoded, ENTRY_WORDS, WORK_CELLS};
-use oracle::phrase::Phrase;
 use oracle::random::Random;
 use oracle::replay::Sample;
-use oracle::tally::Answers;
+use oracle::tally::{Answers, MostUnits};
 use oracle::wanted;
 use std::io::Write;
 
@@ -20,16 +21,32 @@ use std::io::Write;
 const TRIES: usize = 2000;
 const LONGEST_COPY: usize = 40_000;
 
-#[derive(Default)]
+/// How many phrases there are in which many units fit.
+const MANY: usize = 200;
+
 struct Writer {
     sample: Sample,
     answers: Answers,
+    most_units: MostUnits,
+    /// what the calls for the most units are drawn with: a generator of their own, so that they leave all else that is drawn as it is
+    words: Random,
 }
 
 impl Writer {
     fn record(&mut self, record: &[u8], lent: (usize, usize, usize), decoded: &Decoded) {
         self.answers.count(decoded);
         self.sample.record(record, lent, decoded);
+        for _ in 0..2 {
+            let pairs = word_pairs(&mut self.words);
+            let drawn = self.words.pick(&pairs);
+            self.most_units(record, drawn);
+        }
+    }
+
+    fn most_units(&mut self, record: &[u8], (stage, strict): (u32, u32)) {
+        let answer = most_units::wanted(record, stage, strict);
+        self.most_units.count(stage, strict, &answer);
+        self.sample.most_units(record, (stage, strict), &answer);
     }
 
     fn good(&mut self, r: &mut Random, record: &[u8], words: usize) {
@@ -99,6 +116,14 @@ impl Writer {
             self.good(r, &record, ENTRY_WORDS * p.candidates.len());
         }
     }
+
+    /// A phrase in which many units fit, for the four pairs of stage and strictness.
+    fn many_units(&mut self) {
+        let record = encode(&many_units(&mut self.words));
+        for pair in word_pairs(&mut self.words) {
+            self.most_units(&record, pair);
+        }
+    }
 }
 
 /// Lengths as damage draws them, and the long ones a little longer.
@@ -112,23 +137,20 @@ fn lent(r: &mut Random, words: usize) -> (usize, usize, usize) {
     )
 }
 
-/// An added stage, where there is one, of the same lists as the nuclei stage.
-fn share_stages(p: &mut Phrase) {
-    if !p.anchors.is_empty() && !p.nuclei.is_empty() {
-        p.scores.truncate(p.nuclei.len());
-        p.scores.extend(p.scores.clone());
-        p.anchors = p.nuclei.clone();
-        p.added = p.boundaries.clone();
-    }
-}
-
 fn main() {
     let (count, mut r) = count_and_seed("replay_sample");
-    let mut w = Writer::default();
+    let mut w = Writer {
+        sample: Sample::default(),
+        answers: Answers::default(),
+        most_units: MostUnits::default(),
+        words: Random(!r.0),
+    };
     w.good(&mut r, &encode(&sample()), 2 * ENTRY_WORDS);
     w.longest(&mut r);
     (0..count).for_each(|i| w.phrase(&mut r, i));
+    (0..MANY).for_each(|_| w.many_units());
     eprint!("{}", w.sample.printed());
     eprintln!("records {}", w.answers);
+    eprintln!("calls for the most units {}", w.most_units);
     std::io::stdout().write_all(&w.sample.bytes).unwrap();
 }

@@ -3,8 +3,8 @@ use Prim.Native.Nat.{_-_}
 use mathlib.Core.Path.{_≡_}
 use lib.ListN.{length}
 use borrow.Author.Needs.{needs}
-use Rattle.replay.proofs.decoding.lay.Statement.{statement}
-use Rattle.replay.proofs.decoding.lay.Tie as tie
+use Rattle.replay.proofs.pieces.lay.Statement.{statement}
+use Rattle.replay.proofs.pieces.lay.Tie as tie
 
 abbrev Inv-loop : tie.InvT-loop
 Inv-loop body from record₀ at₀ «record» at = length «record» ≡ length record₀

@@ -3,8 +3,8 @@ use Prim.Native.Nat.{_-_, _≤_}
 use mathlib.Core.Path.{_≡_}
 use lib.ListN.{length}
 use borrow.Author.Needs.{needs}
-use Rattle.replay.proofs.decoding.lay_piece.Statement.{statement}
-use Rattle.replay.proofs.decoding.lay_piece.Tie as tie
+use Rattle.replay.proofs.pieces.lay_piece.Statement.{statement}
+use Rattle.replay.proofs.pieces.lay_piece.Tie as tie
 
 abbrev Inv-loop : tie.InvT-loop
 Inv-loop body from len record₀ place i₀ «record» i = (i ≤ len) × (length «record» ≡ length record₀)
