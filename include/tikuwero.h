@@ -13,10 +13,10 @@
  *   - memory that a call writes overlaps nothing else that is lent to the same call, and nobody
  *     else uses what is lent until the call returns.
  *
- * Every other input is answered. A value is 0 or more, TIKUWERO_NO_BOUNDARY too. A refusal is minus
- * its number, -1 to -11 (TIKUWERO_STUB and those after it); then all lent memory keeps its bytes (a
- * NaN stays a NaN). The lowest number that applies is given, save that of a record 8, 9 and 10 are
- * tested candidate by candidate.
+ * Every other input is answered. A value is 0 or more; TIKUWERO_NO_BOUNDARY is a value and no
+ * refusal. A refusal is minus its number, -1 to -11 (TIKUWERO_STUB and those after it); then all lent
+ * memory keeps its bytes (a NaN stays a NaN). The lowest number that applies is given, save that of a
+ * record 8, 9 and 10 are tested candidate by candidate.
  *
  * No call allocates or keeps anything: there is no heap and no static variable, so that calls on
  * different memory may run at the same time. The archive needs memcpy and memset of the C library
@@ -138,11 +138,12 @@ static inline const char *tikuwero_pass_word(uint32_t pass)
 int32_t tikuwero_decode(const uint8_t *record, size_t record_len, double *best, size_t best_len,
                         uint32_t *back, size_t back_len, uint32_t *out, size_t out_len);
 
-/* What tikuwero_most_units returns for a stage without boundaries; no count is as high. */
+/* What tikuwero_most_units returns for a stage without boundaries, in which nothing fits: test for it
+ * first, for it is above every count. */
 #define TIKUWERO_NO_BOUNDARY INT32_MAX
 
-/* How many units would have fitted: the most that a path in one stage of a record has. A coach that
- * reads "none" can tell by it whether fewer syllables were heard than the word has.
+/* How many units would have fitted: the most that a path in one stage of a record has. It is for a
+ * coach that reads "none" and wants to say that fewer syllables were heard than the word has.
  *
  * stage is 0 for the nuclei's stage, and every other word for the added one; strict is 0 for
  * relaxed, and every other word for strict. No word is refused. docs/FORMAT.md has the lists of the
@@ -160,13 +161,14 @@ int32_t tikuwero_decode(const uint8_t *record, size_t record_len, double *best, 
  * smaller number there is a path too. One boundary alone gives 0. Where the stage has none, as the
  * added stage of a record without added anchors, there is no path: TIKUWERO_NO_BOUNDARY.
  *
- * It is all one whether decoding would search that stage in that way: speech edges, whether there
- * is a nucleus in the mask, the candidates and the other stage play no part in the count. So
- * decoding can have no path for k units where this call says k or more. With 24 frames, all marked,
- * speech 0..24, nucleus 1, boundaries 0, 6, 12, 18, 24, the added anchor 1 and no added boundaries,
- * a candidate of 4 units gets TIKUWERO_NO_PATH, for with added anchors there is no pass
- * nuclei-relaxed. This call says 4 for the nuclei relaxed, 1 for the nuclei strict and
- * TIKUWERO_NO_BOUNDARY for the added stage.
+ * Only the mask and the stage's own lists play a part in the count. The passes that decoding runs
+ * over a record with speech and with a nucleus in its mask are the nuclei strict and, with added
+ * anchors, the added stage strict and relaxed, or else the nuclei relaxed. Where it then says
+ * TIKUWERO_NO_PATH of k units, this call says fewer than k, or TIKUWERO_NO_BOUNDARY, for each of those.
+ * For a pass that is not run it can say k or more. With 24 frames, all marked, speech 0..24,
+ * nucleus 1, boundaries 0, 6, 12, 18, 24, the added anchor 1 and no added boundaries, a candidate of
+ * 4 units gets TIKUWERO_NO_PATH, for with added anchors there is no pass nuclei-relaxed. This call
+ * says 4 for the nuclei relaxed, 1 for the nuclei strict and TIKUWERO_NO_BOUNDARY for the added stage.
  *
  * Refuses with 1 to 10, as tikuwero_decode does, and never with 11: only the record is lent. */
 int32_t tikuwero_most_units(const uint8_t *record, size_t record_len, uint32_t stage,

@@ -1,5 +1,5 @@
--- The most units of document 01's sample phrase: nuclei 7, boundaries 4 and 14, no added stage.
-use Prim.Native.Nat.{ℕ}
+-- The most units of document 01's sample phrase: nucleus 7, boundaries 4 and 14, no added stage.
+use Prim.Native.Nat.{_<_}
 use native.Mathlib.Omega.{arith}
 use mathlib.Core.Path.{_≡_, refl, ap, subst}
 use lib.Dec.{T, lit≤}
@@ -38,11 +38,15 @@ admitted Relaxed = rw (sample-record.mask, sample-record.nuclei, sample-record.b
 sample-most : (strictness : Strictness) → Most (problem strictness) (limitsOf sample .units) 1
 unfolding count end numbersOf
 sample-most strictness = record {
-  there = (unit (begin 0) 1, units {p = begin 0} {j = 1} (begins {j = 0} (omega (arith, two))) (lit≤ tt) (omega (arith, two)) (admitted strictness), refl);
+  there =
+      (unit (begin 0) 1, units {p = begin 0} {j = 1} (begins {j = 0} some) (lit≤ tt) (omega (arith, two)) (admitted strictness), refl);
   largest = λ below path a. omega (arith, fewer-than-boundaries (problem strictness) a, two);
-  smaller = λ k h. let none : 0 ≡ k = omega arith in subst (λ (n : ℕ). HasPath (problem strictness) n) none (bare-path (problem strictness) (omega (arith, two)));
+  smaller = λ k h. let none : 0 ≡ k = omega arith in subst (HasPath (problem strictness)) none (bare-path (problem strictness) some);
   capped = lit≤ tt;
 }
+  where
+    some : 0 < length (phraseOf sample .nuclei .boundaries)
+    some = omega (arith, two)
 
 -- one unit fits, strict or relaxed
 sample-one : (strictness : Strictness) → Answers sample Nuclei strictness (Units 1)

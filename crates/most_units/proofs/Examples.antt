@@ -15,12 +15,11 @@ use Rattle.phrase.specs.Phrase.{Phrase, Stage, spoken}
 use Rattle.limits.specs.Edition.{edition1}
 use Rattle.paths.specs.declared.passes.Strictness.{Strictness}
 use Rattle.paths.specs.declared.passes.Strictness.the-variants.{Strict, Relaxed}
-use Rattle.paths.specs.Problem.{Problem}
 use Rattle.paths.specs.Anchors.{kept, keptIn}
 use Rattle.paths.specs.Units.{admitsUnit}
 use Rattle.paths.specs.StageProblem.{cost, unitValueOf}
 use Rattle.paths.specs.Passes.{hasNucleus}
-use Rattle.paths.specs.Demand.{Answer, none}
+use Rattle.paths.specs.Demand.{none}
 use Rattle.paths.specs.Search.{chosen}
 use Rattle.paths.specs.inner.Order.{Increasing}
 use Rattle.paths.specs.inner.Ranges.{lowOrigin, originsEnd, firstReached}
@@ -32,13 +31,13 @@ use Rattle.most_units.proofs.Largest.{last-most, one-boundary}
 abbrev nought : Float
 nought = fin false 0 (pos 0)
 
-abbrev stageOf : List ℕ → ℕ → List ℕ → Stage
-stageOf anchors firstRow boundaries =
+abbrev stageWith : List ℕ → ℕ → List ℕ → Stage
+stageWith anchors firstRow boundaries =
     record { anchors = anchors; firstRow = firstRow; boundaries = boundaries; duration = λ frames. nought }
 
 -- a mask of ones and speech throughout, all figures zero
-abbrev phraseOf : ℕ → Stage → Stage → Phrase
-phraseOf frames nuclei added = record {
+abbrev phraseWith : ℕ → Stage → Stage → Phrase
+phraseWith frames nuclei added = record {
   mask = replicate frames 1;
   nuclei = nuclei;
   added = added;
@@ -55,8 +54,10 @@ reached phrase stage strictness =
     firstReached (lowOrigin (kept phrase stage) (stage .boundaries)) (originsEnd strictness (kept phrase stage) (stage .boundaries))
     (length (stage .boundaries))
 
-most-of : (phrase : Phrase) (stage : Stage) (strictness : Strictness) → Increasing (stage .boundaries) → {cap units : ℕ}
-    → LastReached (reached phrase stage strictness) (length (stage .boundaries)) cap units → Most (pathsOf phrase stage strictness) cap units
+most-of :
+    (phrase : Phrase) (stage : Stage) (strictness : Strictness) → Increasing (stage .boundaries) → {cap units : ℕ} →
+    LastReached (reached phrase stage strictness) (length (stage .boundaries)) cap units →
+    Most (pathsOf phrase stage strictness) cap units
 unfolding reached
 most-of phrase stage strictness up last =
     last-most (pathsOf phrase stage strictness) (origins (kept phrase stage) (stage .boundaries) up strictness) last
@@ -65,10 +66,10 @@ most-of phrase stage strictness up last =
 
 -- n boundaries, each 6 frames after the one before, and no anchor
 abbrev row : ℕ → Stage
-row n = stageOf [] 0 (listed (λ i. 6 * i) n)
+row n = stageWith [] 0 (listed (λ i. 6 * i) n)
 
 abbrev alone : ℕ → Phrase
-alone n = phraseOf 120 (row n) (stageOf [] 0 [])
+alone n = phraseWith 120 (row n) (stageWith [] 0 [])
 
 rises : (n : ℕ) → Increasing (row n .boundaries)
 rises n i h =
@@ -106,10 +107,10 @@ alone-at-0 strictness = one-boundary (pathsOf (alone 1) (row 1) strictness) (len
 
 -- nucleus 1, boundaries 0, 6, 12, 18, 24, and an added stage of one anchor and no boundaries
 abbrev nucleiStage : Stage
-nucleiStage = stageOf (1 ∷ []) 0 (0 ∷ 6 ∷ 12 ∷ 18 ∷ 24 ∷ [])
+nucleiStage = stageWith (1 ∷ []) 0 (0 ∷ 6 ∷ 12 ∷ 18 ∷ 24 ∷ [])
 
 abbrev unheard : Phrase
-unheard = phraseOf 24 nucleiStage (stageOf (1 ∷ []) 1 [])
+unheard = phraseWith 24 nucleiStage (stageWith (1 ∷ []) 1 [])
 
 climbs : Increasing (nucleiStage .boundaries)
 climbs zero h = lit≤ tt

@@ -1,7 +1,7 @@
--- What is proved of the most units: that there is one such count (Largest), the same for any candidate's columns and for decoding
--- (AnyColumns), and one answer on every call (OneAnswer); the others are steps on the way, and examples.
+-- What is proved of the most units: that there is one such count (Largest), what it goes by and what decoding says
+-- beside it (StageAlone), and that there is one answer on every call (OneAnswer); the others are steps on the way, and examples.
 pub mod Largest
-pub mod AnyColumns
+pub mod StageAlone
 mod Words
 pub mod OneAnswer
 mod Examples

@@ -1,6 +1,6 @@
 -- Every call has exactly one answer that meets its contract, told by its number; "no path" is said exactly where the stage has no boundary.
 -- Assumes nothing.
-use Prim.Native.Nat.{ℕ, zero, suc, _+_, _≤_, _<_}
+use Prim.Native.Nat.{ℕ, zero, suc, _+_, _<_}
 use native.Mathlib.Omega.{arith}
 use mathlib.Core.Bool.{Bool, cond}
 use mathlib.Core.List.{List, [], _∷_}
@@ -18,13 +18,13 @@ use Rattle.paths.specs.declared.passes.Strictness.{Strictness}
 use Rattle.paths.specs.Anchors.{kept}
 use Rattle.paths.specs.inner.Ranges.{lowOrigin, originsEnd, firstReached}
 use Rattle.paths.proofs.Ranges.{origins}
-use Rattle.phrase.specs.Phrase.{Phrase, Stage}
+use Rattle.phrase.specs.Phrase.{Stage}
 use Rattle.record.specs.Layout.{layoutOf, limitsOf}
 use Rattle.record.specs.Meaning.{phraseOf, stageOf}
 use Rattle.record.specs.Refusals.{refusalOf}
 use Rattle.record.specs.inner.Accepted.{Laid}
 use Rattle.record.specs.declared.read.Which.{Which}
-use Rattle.record.specs.declared.read.Which.the-variants.{Nuclei, Count}
+use Rattle.record.specs.declared.read.Which.the-variants.{Count}
 use Rattle.record.specs.declared.refusal.Refusal.{Refusal}
 use Rattle.record.specs.declared.refusal.Refusal.the-variants.{Stub, Edition, Size, Reach, Track, Cost, Bare, Twice, Units as BadUnits, Column, Desk}
 use Rattle.record.proofs.Accepted.{fit, own-moderate}
@@ -36,7 +36,7 @@ use Rattle.most_units.specs.Answers.{Answers, is-refused, no-boundary, i
 use Rattle.most_units.specs.inner.Last.{LastReached}
 use Rattle.most_units.specs.declared.answer.MostUnits.{MostUnits}
 use Rattle.most_units.specs.declared.answer.MostUnits.the-variants.{NoPath, Units, Refused}
-use Rattle.most_units.proofs.Largest.{one-most, some-boundary, last-most}
+use Rattle.most_units.proofs.Largest.{one-most, some-boundary, one-boundary, last-most}
 use Rattle.most_units.proofs.Words.{starts-first}
 
 -- ---- some answer
@@ -102,7 +102,8 @@ module _ (bytes : List ℕ) (which : Which) (strictness : Strictness) where
   }
 
   -- "no path" exactly where the stage of an accepted record has no boundary
-  pub no-path-exactly : refusalOf bytes ≡ none → {a : MostUnits} → Answers bytes which strictness a → (a ≡ NoPath) ↔ (stage .boundaries ≡ [])
+  pub no-path-exactly : refusalOf bytes ≡ none → {a : MostUnits} → Answers bytes which strictness a
+      → (a ≡ NoPath) ↔ (stage .boundaries ≡ [])
   no-path-exactly accepted {a} answers = (
     λ e. go (subst (Answers bytes which strictness) e answers),
     λ e. same-answer answers (no-boundary accepted e),
@@ -110,6 +111,11 @@ module _ (bytes : List ℕ) (which : Which) (strictness : Strictness) where
     where
       go : Answers bytes which strictness NoPath → stage .boundaries ≡ []
       go (no-boundary _ e) = e
+
+  -- one boundary gives 0
+  pub one-boundary-0 : refusalOf bytes ≡ none → length (stage .boundaries) ≡ 1 → Answers bytes which strictness (Units 0)
+  one-boundary-0 accepted one =
+      is-counted accepted (one-boundary (pathsOf (phraseOf bytes) stage strictness) one (limitsOf bytes .units))
 
 -- ---- the number of an answer
 

@@ -31,7 +31,7 @@ pub data Answers (bytes : List ℕ) (which : Which) (strictness : Strictness) : 
 abbrev pub noPathNumber : ℕ
 noPathNumber = 2147483647
 
--- "A refusal returns its number only" (document 01): here, as of every call, minus that number.
+-- "A refusal returns its number only" (document 01): here, as for every call, minus that number.
 abbrev pub numberFor : MostUnits → ℤ
 numberFor NoPath = pos noPathNumber
 numberFor (Units units) = pos units

@@ -8,7 +8,7 @@ use Rattle.paths.specs.Path.{Path, count, Admitted, HasPath}
 use Rattle.paths.specs.StageProblem.{problemOf}
 
 -- "Here and in Ask 10 a stage and a strictness admit document 01's paths whether or not decoding would run that pass." Which paths these
--- are does not hang on a candidate's columns (proofs/AnyColumns.antt), so that none are given.
+-- are does not hang on a candidate's columns (proofs/StageAlone.antt), so that none are given.
 abbrev pub pathsOf : Phrase → Stage → Strictness → Problem
 pathsOf phrase stage strictness = problemOf phrase stage strictness []
 

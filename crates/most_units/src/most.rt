@@ -22,7 +22,7 @@ ghost use Rattle.stages.specs.Lists.{wordsLong};
 ghost use Rattle.most_units.specs.Answers.{Answers};
 ghost use Rattle.most_units.specs.inner.Last.{LastReached};
 
-// The last count of units, up to the cap, that reaches one of `n` boundaries, of which there is one.
+// The last count of units, up to the cap, that reaches one of `n` boundaries; there is at least one.
 fn last_reached(words: &[u32], strictness: Strictness, n: usize, cap: usize) -> usize
     requires { ⌜ (length (now words) ≡ wordsLong) × (cap < unitCounts) × (reachedBy (now words) strictness 0 < n) ⌝ }
     ensures { λ r. ⌜ LastReached (reachedBy (now (words .entry)) strictness) n cap r ⌝ }

@@ -1,7 +1,7 @@
 -- What a stretch of frames holds: no more than there is, no less over a longer stretch, and over neighbouring stretches the sum.
 -- Clamping to F changes nothing for kept anchors. Assumes nothing.
 use mathlib.Core.Path.{_≡_, refl, sym, ap, ap₂, _∙_}
-use mathlib.Core.Bool.{Bool, _&&_}
+use mathlib.Core.Bool.{Bool, true, false, cond, _&&_}
 use mathlib.Core.List.{List, [], _∷_}
 use Prim.Native.Nat.{ℕ, suc, _+_, _≤_, _<_, min}
 use native.Mathlib.Nat.{le-of-eq, le-trans, zero-add}
@@ -100,6 +100,33 @@ heldIn-clamped mask row frames from to =
         (λ s. let a = ltb→lt (anchor .frame) to s in lt→ltb (anchor .frame) (min to (length mask)) (omega arith)))
 
 -- ---- the rows of anchors
+
+-- ---- rows play no part in how many are held
+
+-- one more at the front of both lists, or of neither
+one-more : (b : Bool) (a a′ : Anchor) (l l′ : List Anchor) → length l ≡ length l′ → length (cond b (a ∷ l) l) ≡ length (cond b (a′ ∷ l′) l′)
+one-more true a a′ l l′ e = ap suc e
+one-more false a a′ l l′ e = e
+
+numbered-alike : (test : ℕ → Bool) (row row′ : ℕ) (frames : List ℕ)
+    → length (select (λ anchor. test (anchor .frame)) (numbered row frames))
+    ≡ length (select (λ anchor. test (anchor .frame)) (numbered row′ frames))
+unfolding select numbered
+numbered-alike test row row′ [] = refl
+numbered-alike test row row′ (frame ∷ frames) =
+    one-more (test frame) (record { frame = frame; row = row }) (record { frame = frame; row = row′ })
+    (select (λ anchor. test (anchor .frame)) (numbered (suc row) frames)) (select (λ anchor. test (anchor .frame)) (numbered (suc row′) frames))
+    (numbered-alike test (suc row) (suc row′) frames)
+
+pub held-alike : (mask frames : List ℕ) (row row′ from to : ℕ)
+    → length (heldIn (keptIn mask row frames) from to) ≡ length (heldIn (keptIn mask row′ frames) from to)
+unfolding keptIn heldIn
+held-alike mask frames row row′ from to =
+    let inMask : Anchor → Bool = λ anchor. withinMask mask (anchor .frame) in
+    let inside : Anchor → Bool = λ anchor. leb from (anchor .frame) && ltb (anchor .frame) to in
+    ap length (select-select inMask inside (numbered row frames))
+    ∙ numbered-alike (λ frame. withinMask mask frame && (leb from frame && ltb frame to)) row row′ frames
+    ∙ sym (ap length (select-select inMask inside (numbered row′ frames)))
 
 pub each-select : {P : Anchor → Type 0} (test : Anchor → Bool) {anchors : List Anchor} → Each P anchors → Each P (select test anchors)
 unfolding select

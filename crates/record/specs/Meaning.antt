@@ -75,7 +75,7 @@ unfoldable pub phraseOf : List ℕ → Phrase
 unfolding phraseAt
 phraseOf bytes = phraseAt (limitsOf bytes) bytes (layoutOf bytes)
 
--- the stage that a word of the code names: that of the nuclei, or the added one
+-- the stage that a case of `Which` names: that of the nuclei, or the added one
 abbrev pub stageOf : Which → Phrase → Stage
 stageOf Nuclei phrase = phrase .nuclei
 stageOf Count phrase = phrase .added

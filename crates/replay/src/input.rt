@@ -15,14 +15,11 @@ pub(crate) struct Answer {
     pub(crate) words: u32,
 }
 
-// The highest number that a call returns.
-const HIGHEST: u32 = 2147483647;
-
-// A number as it stands, or the highest.
+// A number as it stands, or one that no call returns.
 fn returnable(n: u32) -> u32
-    ensures { λ r. ⌜ r ≤ 2147483647 ⌝ }
+    ensures { λ r. ⌜ r < 2 ^ 31 ⌝ }
 {
-    if n < HIGHEST { n } else { HIGHEST }
+    if n < 2147483648 { n } else { 2147483646 }
 }
 
 impl Answer {

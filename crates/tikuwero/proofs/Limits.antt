@@ -61,7 +61,8 @@ entries-within bytes best back out told =
     go (some q) e = zero-le
 
 -- a count of units is at most the most units of an edition
-pub units-within : {bytes : List ℕ} {which : Which} {strictness : Strictness} {units : ℕ} → Answers bytes which strictness (Count units) → units ≤ mostUnits
+pub units-within : {bytes : List ℕ} {which : Which} {strictness : Strictness} {units : ℕ} → Answers bytes which strictness (Count units)
+    → units ≤ mostUnits
 units-within {bytes} (is-counted own most) = le-trans (most .capped) (own-moderate bytes .units)
 
 pub number-within : (q : Refusal) → numberOf q ≤ 11

@@ -1,5 +1,5 @@
--- What calls promise of which one number says not all: the number that is returned, and what is then in the caller's memory or what the
--- number stands for.
+-- What calls promise for which one equation does not say everything: the number that is returned, and what is then in the caller's memory
+-- or what the number stands for.
 use Prim.Native.Nat.{ℕ}
 use mathlib.Core.List.{List}
 use mathlib.Core.Path.{_≡_}

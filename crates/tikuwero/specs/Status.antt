@@ -39,6 +39,6 @@ frameOf word = cond (eqb word absent) None (At word)
 abbrev pub stageNamed : ℕ → Which
 stageNamed word = cond (eqb word 0) Nuclei Count
 
--- likewise a strictness: 0 relaxed, else strict
+-- a strictness likewise, as docs/DECISIONS.md reads it: 0 relaxed, every other word strict
 abbrev pub strictnessNamed : ℕ → Strictness
 strictnessNamed word = cond (eqb word 0) Relaxed Strict

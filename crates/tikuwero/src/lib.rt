@@ -25,8 +25,8 @@ ghost use Rattle.evidence.specs.CreakyTail.{creakyTailOf};
 ghost use Rattle.tikuwero.specs.Status.{status, flag, edgeFlags, frameOf};
 ghost use Rattle.tikuwero.specs.Calls.{DecodeCall, RateCall, SpansCall, MostUnitsCall};
 
-// What "no path" is returned as, the highest `i32`.
-const NO_PATH: i32 = 2147483647;
+// What "no path" is returned as, the highest `i32`; the header has it under this name.
+const NO_BOUNDARY: i32 = 2147483647;
 
 // The number of entries in `out`.
 #[no_mangle]
@@ -118,7 +118,7 @@ pub extern "C" fn tikuwero_most_units(record: &[u8], stage: u32, strict: u32) ->
     ensures { λ r. ⌜ MostUnitsCall (now («record» .entry)) stage strict r ⌝ }
 {
     match most_units(record, stage_named(stage), strictness_named(strict)) {
-        MostUnits::NoPath => NO_PATH,
+        MostUnits::NoPath => NO_BOUNDARY,
         MostUnits::Units(units) => units as i32,
         MostUnits::Refused(refusal) => -(refusal.number() as i32),
     }

@@ -1,11 +1,10 @@
 -- Each answer has its number; counts and refusals are small numbers.
-use Prim.Native.Nat.{ℕ, _≤_, _<_, _^_}
+use Prim.Native.Nat.{ℕ, _<_, _^_}
 use mathlib.Core.Path.{refl, ap, subst, _∙_}
 use native.Mathlib.Omega.{arith}
 use lib.IntN.{pos, negℤ}
 use mir.Syntax.{w32}
 use mir.Facts.{toZ-pos}
-use Rattle.limits.specs.Capacity.{mostUnits}
 use Rattle.most_units.specs.Answers.{Answers}
 use Rattle.tikuwero.proofs.Numbers.{minus-fits, minus-read}
 use Rattle.tikuwero.proofs.Given.{most-units-call}

@@ -1,8 +1,6 @@
 -- Every count up to the present one reaches a boundary.
 use Prim.Native.Nat.{_-_, _≤_, _<_}
-use mathlib.Core.Path.{subst}
 use native.Mathlib.Omega.{arith}
-use borrow.Author.Needs.{needs}
 use Rattle.rows.specs.Reads.{reachedBy}
 use Rattle.most_units.proofs.most.last_reached.Statement.{statement}
 use Rattle.most_units.proofs.most.last_reached.Tie as tie
@@ -39,7 +37,11 @@ loop-again : tie.Need-loop-again Inv-loop μ-loop
 loop-again c = (omega arith, omega (arith, c .before .first-reached .ensures, c .if1 .left))
 
 returns-2 : tie.Need-returns-2 Inv-loop μ-loop
-returns-2 c = record { capped = c .before .loop .inv .0; reaches = c .before .loop .inv .1; ends = λ below. absurd (omega (arith, c .loop-test .left)) }
+returns-2 c = record {
+  capped = c .before .loop .inv .0;
+  reaches = c .before .loop .inv .1;
+  ends = λ below. absurd (omega (arith, c .loop-test .left));
+}
 
 pub last-reached-spec : {M : Type 1} → statement M
 last-reached-spec =

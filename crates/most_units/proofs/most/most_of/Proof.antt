@@ -47,7 +47,8 @@ boundaries-requires c κs = let start = c .before .before in (start .pre, few-bo
 returns : tie.Need-returns
 returns c =
     let start = entered (c .before .before) in
-    no-boundary (start .pre .accepted) (length-none (bounds-of start) (sym (c .before .before .boundaries .ensures .counted) ∙ c .if1 .taken))
+    no-boundary (start .pre .accepted)
+    (length-none (bounds-of start) (omega (arith, c .before .before .boundaries .ensures .counted, c .if1 .taken)))
 
 array-share-prefix-bounds : tie.Need-array-share-prefix-bounds
 array-share-prefix-bounds c = copied-within (c .before .before .boundaries .ensures)

@@ -1,22 +1,27 @@
--- The most units are the same for any candidate's columns, and a pass admits a path of a candidate's count exactly where that count is at
--- most the most units of its stage and strictness. Assumes nothing.
-use Prim.Native.Nat.{ℕ, _≤_, _<_}
+-- The most units go by the mask and by the anchors and boundaries of the stage alone: not by speech, the other stage, a figure or a candidate.
+-- A pass admits a path of a candidate's count exactly where that count is at most the most units of its stage and strictness. Assumes nothing.
+use Prim.Native.Nat.{ℕ, _-_, _≤_, _<_}
 use native.Mathlib.Omega.{arith}
-use mathlib.Core.List.{List, [], _∷_}
+use mathlib.Core.Bool.{_&&_}
+use mathlib.Core.List.{List, []}
 use mathlib.Core.Logic.{_↔_}
 use mathlib.Core.Option.{Option·some-ne-none, none as none-given}
-use mathlib.Core.Path.{_≡_, refl, sym, subst, _∙_}
+use mathlib.Core.Path.{_≡_, refl, sym, ap, subst, _∙_}
 use lib.Dec.{T}
-use lib.ListN.{length}
+use lib.ListN.{length, getD}
 use Rattle.phrase.specs.Phrase.{Phrase, Stage}
 use Rattle.paths.specs.declared.passes.Strictness.{Strictness}
 use Rattle.paths.specs.declared.passes.Pass.{Pass}
 use Rattle.paths.specs.declared.passes.Pass.the-variants.{NucleiStrict, CountStrict, CountRelaxed, NucleiRelaxed}
 use Rattle.paths.specs.Path.{Path, Admitted, HasPath, NoPath}
-use Rattle.paths.specs.StageProblem.{problemOf}
+use Rattle.paths.specs.Problem.{Problem}
+use Rattle.paths.specs.Anchors.{keptIn, heldIn}
+use Rattle.paths.specs.Units.{fitsUnit, mayHold, admitsUnit}
+use Rattle.paths.specs.StageProblem.{boundary, problemOf}
 use Rattle.paths.specs.Passes.{passStage, passStrictness, speaks, inOrder}
 use Rattle.paths.specs.Demand.{Admits, AdmitsNone, EachPass, all-done, each-of, Demanded, no-path, none}
-use Rattle.paths.proofs.AgreeingProblems.{Agreeing, same-admitted}
+use Rattle.paths.proofs.Anchors.{held-alike}
+use Rattle.paths.proofs.Counts.{admitted-alike}
 use Rattle.record.specs.Layout.{limitsOf}
 use Rattle.record.specs.Meaning.{phraseOf, stageOf}
 use Rattle.record.specs.Refusals.{refusalOf}
@@ -28,49 +33,55 @@ use Rattle.most_units.specs.declared.answer.MostUnits.{MostUnits}
 use Rattle.most_units.specs.declared.answer.MostUnits.the-variants.{NoPath as NoPathAt, Units, Refused}
 use Rattle.most_units.proofs.Largest.{counts-exactly}
 
-module _ (phrase : Phrase) (stage : Stage) (strictness : Strictness) (columns : List ℕ) where
-  alike : Agreeing 0 (pathsOf phrase stage strictness) (problemOf phrase stage strictness columns)
-  alike = record {
-    size = refl;
-    starts = λ i h. refl;
-    gaps = λ i h. refl;
-    stops = λ i h. refl;
-    allowed = λ i j h l. refl;
-    units = λ unit i j none h l ok. absurd (omega arith);
+-- ---- what plays no part
+
+module _ {q q′ : Problem} (sized : q .size ≡ q′ .size) (allowed : (i j : ℕ) → q .unitOk i j ≡ q′ .unitOk i j) where
+  there-too : {k : ℕ} → HasPath q k → HasPath q′ k
+  there-too path = (path .0, admitted-alike sized allowed (path .1), path .2)
+
+  most-too : {cap units : ℕ} → Most q cap units → Most q′ cap units
+  most-too m = record {
+    there = there-too (m .there);
+    largest = λ below path a. m .largest below path (admitted-alike (sym sized) (λ i j. sym (allowed i j)) a);
+    smaller = λ k h. there-too (m .smaller k h);
+    capped = m .capped;
   }
 
-  -- the same paths are admitted, whatever the columns
-  pub any-columns : (path : Path) → Admitted (pathsOf phrase stage strictness) path ↔ Admitted (problemOf phrase stage strictness columns) path
-  any-columns = same-admitted alike
+-- two stages with the same frames, under one mask
+pub stage-alone :
+    (phrase phrase′ : Phrase) (stage stage′ : Stage) → phrase .mask ≡ phrase′ .mask → stage .anchors ≡ stage′ .anchors →
+    stage .boundaries ≡ stage′ .boundaries → (strictness : Strictness) (columns columns′ : List ℕ) {cap units : ℕ} →
+    Most (problemOf phrase stage strictness columns) cap units → Most (problemOf phrase′ stage′ strictness columns′) cap units
+unfolding admitsUnit
+stage-alone phrase phrase′ stage stage′ masked anchored bounded strictness columns columns′ =
+    most-too (ap length bounded)
+    (λ i j.
+    (λ k.
+    let from = getD (bounded k) i 0 in
+    let to = getD (bounded k) j 0 in
+    fitsUnit (to - from) && mayHold strictness (length (heldIn (keptIn (masked k) (stage .firstRow) (anchored k)) from to)))
+    ∙ ap (λ (n : ℕ). fitsUnit (boundary stage′ j - boundary stage′ i) && mayHold strictness n)
+    (held-alike (phrase′ .mask) (stage′ .anchors) (stage .firstRow) (stage′ .firstRow) (boundary stage′ i) (boundary stage′ j)))
 
-  pub same-most : (cap units : ℕ) → Most (pathsOf phrase stage strictness) cap units ↔ Most (problemOf phrase stage strictness columns) cap units
-  same-most cap units = (
-    λ m. record {
-      there = to (m .there);
-      largest = λ below path a. m .largest below path (any-columns path .1 a);
-      smaller = λ k h. to (m .smaller k h);
-      capped = m .capped;
-    },
-    λ m. record {
-      there = from (m .there);
-      largest = λ below path a. m .largest below path (any-columns path .0 a);
-      smaller = λ k h. from (m .smaller k h);
-      capped = m .capped;
-    },
-  )
-    where
-      to : {k : ℕ} → HasPath (pathsOf phrase stage strictness) k → HasPath (problemOf phrase stage strictness columns) k
-      to path = (path .0, any-columns (path .0) .0 (path .1), path .2)
+-- so any candidate's columns do: the same paths are admitted,
+pub any-columns : (phrase : Phrase) (stage : Stage) (strictness : Strictness) (columns : List ℕ) (path : Path)
+    → Admitted (pathsOf phrase stage strictness) path ↔ Admitted (problemOf phrase stage strictness columns) path
+any-columns phrase stage strictness columns path = (admitted-alike refl (λ i j. refl), admitted-alike refl (λ i j. refl))
 
-      from : {k : ℕ} → HasPath (problemOf phrase stage strictness columns) k → HasPath (pathsOf phrase stage strictness) k
-      from path = (path .0, any-columns (path .0) .1 (path .1), path .2)
+-- and the most units are the same
+pub same-most : (phrase : Phrase) (stage : Stage) (strictness : Strictness) (columns : List ℕ) {cap units : ℕ}
+    → Most (pathsOf phrase stage strictness) cap units ↔ Most (problemOf phrase stage strictness columns) cap units
+same-most phrase stage strictness columns = (
+  stage-alone phrase phrase stage stage refl refl refl strictness [] columns,
+  stage-alone phrase phrase stage stage refl refl refl strictness columns [],
+)
 
 -- ---- the most units and what decoding says
 
 module _ (phrase : Phrase) (columns : List ℕ) {cap : ℕ} (few : length columns ≤ cap) where
   pub admits-exactly : (pass : Pass) {units : ℕ} → MostIn phrase pass cap units → Admits phrase columns pass ↔ (length columns ≤ units)
   admits-exactly pass {units} most =
-      counts-exactly (same-most phrase (passStage phrase pass) (passStrictness pass) columns cap units .0 most) (length columns) few
+      counts-exactly (same-most phrase (passStage phrase pass) (passStrictness pass) columns .0 most) (length columns) few
 
   -- where there is no path though there is speech, each pass that was run has room for fewer units
   too-short :
@@ -111,7 +122,9 @@ fewer-heard bytes accepted columns few demanded spoken = each (too-short (phrase
     one pass short (Refused refusal) (is-refused e) = absurd (Option·some-ne-none refusal (sym e ∙ accepted))
     one pass short NoPathAt (no-boundary e bare) = nothing-fits
     one pass short (Units units) (is-counted e most) =
-        too-few (short units (subst (λ (stage : Stage). Most (pathsOf (phraseOf bytes) stage (passStrictness pass)) (limitsOf bytes .units) units)
+        too-few
+        (short units
+        (subst (λ (stage : Stage). Most (pathsOf (phraseOf bytes) stage (passStrictness pass)) (limitsOf bytes .units) units)
         (staged pass) most))
 
     each : {passes : List Pass}
