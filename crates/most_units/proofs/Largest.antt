@@ -22,7 +22,9 @@ module _ {q : Problem} {cap : ℕ} where
   -- no two counts are the most under one cap
   pub one-most : {a b : ℕ} → Most q cap a → Most q cap b → a ≡ b
   one-most {a} {b} m n =
-      omega (arith, counts-exactly m b (n .capped) .0 (n .there), counts-exactly n a (m .capped) .0 (m .there))
+      let few : b ≤ cap = omega (arith, n .capped) in
+      let few′ : a ≤ cap = omega (arith, m .capped) in
+      omega (arith, counts-exactly m b few .0 (n .there), counts-exactly n a few′ .0 (m .there))
 
   -- where there is a count, there is a boundary
   pub some-boundary : {a : ℕ} → Most q cap a → 0 < q .size

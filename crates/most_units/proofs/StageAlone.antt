@@ -21,7 +21,7 @@ use Rattle.paths.specs.StageProblem.{boundary, problemOf}
 use Rattle.paths.specs.Passes.{passStage, passStrictness, speaks, inOrder}
 use Rattle.paths.specs.Demand.{Admits, AdmitsNone, EachPass, all-done, each-of, Demanded, no-path, none}
 use Rattle.paths.proofs.Anchors.{held-alike}
-use Rattle.paths.proofs.Counts.{admitted-alike}
+use Rattle.paths.proofs.AgreeingProblems.{admitted-alike}
 use Rattle.record.specs.Layout.{limitsOf}
 use Rattle.record.specs.Meaning.{phraseOf, stageOf}
 use Rattle.record.specs.Refusals.{refusalOf}
@@ -37,12 +37,12 @@ use Rattle.most_units.proofs.Largest.{counts-exactly}
 
 module _ {q q′ : Problem} (sized : q .size ≡ q′ .size) (allowed : (i j : ℕ) → q .unitOk i j ≡ q′ .unitOk i j) where
   there-too : {k : ℕ} → HasPath q k → HasPath q′ k
-  there-too path = (path .0, admitted-alike sized allowed (path .1), path .2)
+  there-too path = (path .0, admitted-alike sized (λ i j _ _. allowed i j) (path .1), path .2)
 
   most-too : {cap units : ℕ} → Most q cap units → Most q′ cap units
   most-too m = record {
     there = there-too (m .there);
-    largest = λ below path a. m .largest below path (admitted-alike (sym sized) (λ i j. sym (allowed i j)) a);
+    largest = λ below path a. m .largest below path (admitted-alike (sym sized) (λ i j _ _. sym (allowed i j)) a);
     smaller = λ k h. there-too (m .smaller k h);
     capped = m .capped;
   }
@@ -66,7 +66,7 @@ stage-alone phrase phrase′ stage stage′ masked anchored bounded strictness c
 -- so any candidate's columns do: the same paths are admitted,
 pub any-columns : (phrase : Phrase) (stage : Stage) (strictness : Strictness) (columns : List ℕ) (path : Path)
     → Admitted (pathsOf phrase stage strictness) path ↔ Admitted (problemOf phrase stage strictness columns) path
-any-columns phrase stage strictness columns path = (admitted-alike refl (λ i j. refl), admitted-alike refl (λ i j. refl))
+any-columns phrase stage strictness columns path = (admitted-alike refl (λ i j _ _. refl), admitted-alike refl (λ i j _ _. refl))
 
 -- and the most units are the same
 pub same-most : (phrase : Phrase) (stage : Stage) (strictness : Strictness) (columns : List ℕ) {cap units : ℕ}

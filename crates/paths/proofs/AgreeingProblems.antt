@@ -38,12 +38,18 @@ agreeing-sym agree = record {
 
 -- ---- the same paths, with the same sums
 
+-- what is admitted goes by how many boundaries there are and which units may go between them, and by no figure
+pub admitted-alike :
+    {q q′ : Problem} → q .size ≡ q′ .size → ((i j : ℕ) → i < j → j < q .size → q .unitOk i j ≡ q′ .unitOk i j) → {p : Path} →
+    Admitted q p → Admitted q′ p
+admitted-alike sized allowed (begins {j = j} l) = begins {j = j} (omega arith)
+admitted-alike sized allowed (gaps {p = p} a l) = gaps {p = p} (admitted-alike sized allowed a) (omega arith)
+admitted-alike sized allowed (units {p = p} {j = j} a h l ok) =
+    units {p = p} {j = j} (admitted-alike sized allowed a) h (omega arith) (subst T (allowed (end p) j h l) ok)
+
 module _ {k : ℕ} {q q′ : Problem} (agree : Agreeing k q q′) where
   pub admitted-too : {p : Path} → Admitted q p → Admitted q′ p
-  admitted-too (begins {j = j} l) = begins {j = j} (omega arith)
-  admitted-too (gaps {p = p} a l) = gaps {p = p} (admitted-too a) (omega arith)
-  admitted-too (units {p = p} {j = j} a h l ok) =
-      units {p = p} {j = j} (admitted-too a) h (omega arith) (subst T (agree .allowed (end p) j h l) ok)
+  admitted-too a = admitted-alike (agree .size) (agree .allowed) a
 
   pub same-value : {p : Path} → Admitted q p → count p ≤ k → value q p ≡ value q′ p
   unfolding value count

@@ -2,9 +2,8 @@
 -- reaches. Assumes nothing.
 use Prim.Native.Nat.{ℕ, zero, suc, _+_, _-_, _≤_, _<_}
 use native.Mathlib.Omega.{arith}
-use mathlib.Core.Path.{_≡_, refl, ap, subst, _∙_}
+use mathlib.Core.Path.{_≡_, refl, ap, _∙_}
 use borrow.Author.Tests.{lt-ltb}
-use lib.Dec.{T}
 use Rattle.paths.specs.Problem.{Problem}
 use Rattle.paths.specs.Path.{Path, begin, gap, unit, end, count, Admitted, begins, gaps, units, HasPath, NoPath}
 use Rattle.paths.specs.CellRule.{chosenPath}
@@ -12,16 +11,6 @@ use Rattle.paths.specs.inner.Ranges.{Origins, firstReached}
 use Rattle.paths.proofs.PathRoutes.{end-inside}
 use Rattle.paths.proofs.Chosen.{chosen-admitted, chosen-count, none-chosen as nothing-there}
 use Rattle.paths.proofs.Reached.{held-is, chosen-reach, none-chosen}
-
--- ---- what is admitted
-
--- it goes by how many boundaries there are and which units may go between them, and by no figure
-pub admitted-alike : {q q′ : Problem} → q .size ≡ q′ .size → ((i j : ℕ) → q .unitOk i j ≡ q′ .unitOk i j) → {p : Path}
-    → Admitted q p → Admitted q′ p
-admitted-alike sized allowed (begins {j = j} l) = begins {j = j} (omega arith)
-admitted-alike sized allowed (gaps {p = p} a l) = gaps {p = p} (admitted-alike sized allowed a) (omega arith)
-admitted-alike sized allowed (units {p = p} {j = j} a h l ok) =
-    units {p = p} {j = j} (admitted-alike sized allowed a) h (omega arith) (subst T (allowed (end p) j) ok)
 
 -- ---- a unit can always be replaced by the gaps under it
 

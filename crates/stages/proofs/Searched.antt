@@ -1,5 +1,5 @@
 -- What is laid by the places of the boundaries is what the definitions say of the kept anchors.
-use Prim.Native.Nat.{ℕ, zero, suc, _+_, _-_, _≤_, _<_}
+use Prim.Native.Nat.{ℕ, _+_, _-_, _≤_, _<_}
 use mathlib.Core.Bool.{Bool, _&&_, and-assoc}
 use mathlib.Core.List.{List, tail}
 use mathlib.Core.Path.{_≡_, refl, sym, ap, _∙_}
@@ -9,15 +9,15 @@ use lib.Dec.{eqb, leb, ltb}
 use lib.ListN.{length, getD, take, drop, length-map}
 use Rattle.laws.proofs.Numbers.{by-order}
 use Rattle.laws.proofs.Listed.{length-padded, listed-same, table-at, table-same}
-use Rattle.laws.proofs.Range.{first-same}
 use Rattle.laws.specs.Listed.{listed}
 use Rattle.laws.specs.inner.Tables.{padded, tableOf}
 use Rattle.paths.specs.declared.passes.Strictness.the-variants.{Strict, Relaxed}
 use Rattle.paths.specs.Anchors.{Anchor, heldIn, rowOr}
 use Rattle.paths.specs.Units.{fitsUnit, admitsUnit}
 use Rattle.paths.specs.theory.LookAhead.{ahead, frameOr, firstAhead, secondAhead}
-use Rattle.paths.specs.inner.Ranges.{goesTo, lowOrigin, originsEnd, arrivesFrom, firstReached, before, lastOf, rowBefore}
+use Rattle.paths.specs.inner.Ranges.{goesTo, lowOrigin, originsEnd, firstReached, before, lastOf, rowBefore}
 use Rattle.paths.proofs.LookAhead.{holds-none, holds-one, holds-more}
+use Rattle.paths.proofs.Reached.{reached-same}
 use Rattle.paths.proofs.Rising.{Rising}
 use Rattle.limits.specs.Capacity.{mostBoundaries, anchorRoom, unitCounts}
 use Rattle.limits.specs.Common.{absent}
@@ -76,25 +76,13 @@ module _ {anchors : List Anchor} (rising : Rising 0 anchors) (bounds : List ℕ)
       and-assoc (fitsUnit (to - from)) (leb to (secondAhead absent anchors from)) (ltb (firstAhead absent anchors from) to)
       ∙ ap (λ (one : Bool). fitsUnit (to - from) && one) (holds-single rising from to within)
 
--- ---- what each count reaches, by other names of the ranges
+-- ---- what each count reaches, by the tables that hold the ranges
 
-reached-same : (low low′ end end′ : ℕ → ℕ) (n : ℕ) → ((j : ℕ) → j < n → low j ≡ low′ j) → ((j : ℕ) → j < n → end j ≡ end′ j) → (s : ℕ)
-    → firstReached low end n s ≡ firstReached low′ end′ n s
-unfolding firstReached
-reached-same low low′ end end′ n lows ends zero = refl
-reached-same low low′ end end′ n lows ends (suc s) =
-    first-same n (arrivesFrom low end (firstReached low end n s)) (arrivesFrom low′ end′ (firstReached low′ end′ n s)) 0 n
-    (λ j _ h.
-    let here : j < n = omega arith in
-    let since = reached-same low low′ end end′ n lows ends s in
-    λ i. arrivesFrom (λ k. lows j here i) (λ k. ends j here i) (since i) j)
-
--- by the tables that hold them
 counts-by : (f g : ℕ → ℕ) (n : ℕ) {low ends : List ℕ} → low ≡ tableOf f n mostBoundaries 0 → ends ≡ tableOf g n mostBoundaries 0
     → listed (firstReached (entryOf low) (entryOf ends) n) unitCounts ≡ listed (firstReached f g n) unitCounts
 counts-by f g n {low} {ends} lows tops =
     listed-same (firstReached (entryOf low) (entryOf ends) n) (firstReached f g n) unitCounts
-    (λ s _. reached-same (entryOf low) f (entryOf ends) g n (entry f lows) (entry g tops) s)
+    (λ s _. reached-same (entryOf low) (entryOf ends) f g n (entry f lows) (entry g tops) s)
   where
     entry : (h : ℕ → ℕ) {table : List ℕ} → table ≡ tableOf h n mostBoundaries 0 → (j : ℕ) → j < n → entryOf table j ≡ h j
     entry h e j inside = ap (λ (l : List ℕ). entryOf l j) e ∙ table-at h n mostBoundaries 0 0 j inside
