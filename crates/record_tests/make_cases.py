@@ -67,7 +67,7 @@ def refusal_with(record, best, back, out):
     if own:
         return own
     m = struct.unpack("<I", record[-12:-8])[0]
-    return 11 if best < 1088 or back < 1088 or out < 52 * m else 0
+    return 11 if best < 1088 or back < 1088 or out < 54 * m else 0
 
 
 # ---- the base records
@@ -108,7 +108,7 @@ def full():
 BASES = [sample(), full()]
 SAMPLE, FULL = 0, 1
 LONG = [len(BASES[SAMPLE]), len(BASES[FULL]) + FULL_SCORES]
-ENOUGH = (1088, 1088, 16 * 52)
+ENOUGH = (1088, 1088, 16 * 54)
 cases = []
 
 
@@ -259,11 +259,11 @@ for count, word in [(1, 2), (3, 4), (5, 6)]:
 case(SAMPLE, trailer(SAMPLE, 2, 1319), long=LONG[SAMPLE] + 7)
 
 # 11, after every other number
-for areas in [(1088, 1088, 104), (1087, 1088, 104), (1088, 1087, 104), (1088, 1088, 103), (0, 0, 0), (2**31,) * 3]:
+for areas in [(1088, 1088, 108), (1087, 1088, 108), (1088, 1087, 108), (1088, 1088, 107), (0, 0, 0), (2**31,) * 3]:
     case(SAMPLE, areas=areas)
-for areas in [(1088, 1088, 832), (1088, 1088, 831), (1087, 1088, 832)]:
+for areas in [(1088, 1088, 864), (1088, 1088, 863), (1087, 1088, 864)]:
     case(FULL, areas=areas)
-for words_lent in [51, 52]:
+for words_lent in [53, 54]:
     case(SAMPLE, trailer(SAMPLE, 13, 1), areas=(1088, 1088, words_lent))
 for cause in CAUSES + [COLUMN, LATE_UNITS]:
     case(SAMPLE, cause, areas=(0, 0, 0))

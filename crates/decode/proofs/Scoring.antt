@@ -30,7 +30,7 @@ use Rattle.closed.specs.declared.search.Searched.{Searched}
 use Rattle.closed.specs.Answered.{Says, passWord}
 use Rattle.closed.specs.Asked.{columnsOf}
 use Rattle.closed.proofs.Bridge.{readable}
-use Rattle.record.specs.Layout.{limitsOf}
+use Rattle.record.specs.Layout.{layoutOf, limitsOf}
 use Rattle.record.specs.Meaning.{phraseOf, stageOf}
 use Rattle.record.specs.inner.Accepted.{Laid, CandidateFit}
 use Rattle.record.specs.inner.Reading.{candidateOf}
@@ -53,6 +53,7 @@ use Rattle.decode.specs.Places.{Placeable, ReportedAll, missedAt, Holds}
 use Rattle.decode.specs.Plans.{PlanOf, PreparedWords}
 use Rattle.decode.specs.Scored.{MissedEntry, ScoredAs}
 use Rattle.decoding.proofs.Demands.{answered}
+use Rattle.decoding.proofs.Totals.{total-real}
 use Rattle.decoding.proofs.Units.{length-reportedIn}
 use Rattle.decode.proofs.Reporting as Reporting
 use Rattle.decode.proofs.Said.{FoundPath, says-found, says-none, says-unvoiced}
@@ -107,10 +108,15 @@ module _ {bytes : List ℕ} {at : Layout} (h : Laid bytes at) where
     pub few-units : length columns ≤ mostUnits
     few-units = candidate-units h below
 
+    laid-fits : CandidateFit (limitsOf bytes .units) (layoutOf bytes .scores .count) chosenOne
+    laid-fits = subst (λ (x : Layout). CandidateFit (limitsOf bytes .units) (x .scores .count) chosenOne) (h .layout) fits
+
     demanded : D.Demanded phrase columns (chosen phrase columns)
-    demanded =
-        answered bytes (h .accepted)
-        (subst (λ (x : Layout). CandidateFit (limitsOf bytes .units) (x .scores .count) chosenOne) (h .layout) fits)
+    demanded = answered bytes (h .accepted) laid-fits
+
+    -- the total of the entry is no NaN
+    total-number : (a : Answer) → chosen phrase columns ≡ a → T (not (isNan (totalOf phrase (length columns) a)))
+    total-number a is = finite-number _ (total-real bytes (h .accepted) laid-fits (subst (D.Demanded phrase columns) is demanded) .isFinite)
 
     module _ (searched : Searched) (says : Says (chosen phrase columns) searched) where
       module _ {pass : Pass} {total : Float} (e : searched .answer ≡ Found pass total) where
@@ -167,11 +173,11 @@ module _ {bytes : List ℕ} {at : Layout} (h : Laid bytes at) where
               ∙ held-units holds
 
           pub scored-found : ScoredAs (limitsOf bytes .units) (entryOf phrase chosenOne)
-              (record { head = record { id = id; llr = llr; pass = number; units = k }; units = units })
+              (record { head = record { id = id; llr = llr; pass = number; units = k; total = total }; units = units })
           unfolding entryBy entryFor
           scored-found =
               coe 1 0 (i. ScoredAs (limitsOf bytes .units) (entryFor phrase chosenOne (it .is i))
-              (record { head = record { id = id; llr = llr; pass = number; units = k }; units = units }))
+              (record { head = record { id = id; llr = llr; pass = number; units = k; total = total }; units = units }))
               (record {
                 whole =
                     λ i. record {
@@ -182,6 +188,7 @@ module _ {bytes : List ℕ} {at : Layout} (h : Laid bytes at) where
                       units = units-are i;
                     };
                 number = finite-number _ (clamped .within .real .isFinite);
+                totalNumber = total-number (D.found pass (it .path) total) (it .is);
                 few = omega (arith, fits .fewUnits);
                 starts = holds .startsLong;
                 ends = holds .endsLong;
@@ -207,6 +214,7 @@ module _ {bytes : List ℕ} {at : Layout} (h : Laid bytes at) where
                   units = units-are i;
                 };
             number = subst (λ (h : EntryHead). T (not (isNan (h .llr)))) head (missed .number);
+            totalNumber = total-number a is;
             few = fits .fewUnits;
             starts = held .startsLong;
             ends = held .endsLong;
@@ -227,11 +235,24 @@ module _ {bytes : List ℕ} {at : Layout} (h : Laid bytes at) where
               ap (λ (m : ℕ). unitsFrom (at-start .starts) (at-start .ends) (at-start .rows) m 0) (sym (length-replicate n _))
               ∙ held-units held ∙ sym spans
 
-          llr : clampedLog (unanchoredUnits (plan .costs) k) ≡ clampedLog (totalOf phrase n a)
-          llr = (λ i. clampedLog (unanchoredUnits (planned .costs i) (counted i))) ∙ ap clampedLog (sym totals)
+          total : unanchoredUnits (plan .costs) k ≡ totalOf phrase n a
+          total = (λ i. unanchoredUnits (planned .costs i) (counted i)) ∙ sym totals
 
-          head : r .head ≡ record { id = chosenOne .id; llr = clampedLog (totalOf phrase n a); pass = answerNumber a; units = n }
-          head = missed .head ∙ (λ i. record { id = named i; llr = llr i; pass = numbered i; units = counted i })
+          head : r .head ≡ record {
+            id = chosenOne .id;
+            llr = clampedLog (totalOf phrase n a);
+            pass = answerNumber a;
+            units = n;
+            total = totalOf phrase n a;
+          }
+          head =
+              missed .head ∙ (λ i. record {
+                id = named i;
+                llr = clampedLog (total i);
+                pass = numbered i;
+                units = counted i;
+                total = total i;
+              })
 
       pub scored-none : searched .answer ≡ None → {k id number : ℕ} {r : Scored} → k ≡ length columns → id ≡ chosenOne .id
           → number ≡ passWord (searched .answer)

@@ -14,16 +14,18 @@ use Rattle.entries.specs.inner.EntryFrom.{entryFrom}
 use Rattle.decode.specs.declared.entry.Scored.{Scored}
 use Rattle.decode.specs.Places.{missedAt}
 
--- "No path: k empty spans at speech start", with the score "f32 k × unvoiced, widened, clamped"
+-- "No path: k empty spans at speech start", with the score "f32 k × unvoiced, widened, clamped", and "the widened product before the clamp"
 pub record MissedEntry (id k pass : ℕ) (costs : Costs) (at : ℕ) (r : Scored) : Type 0 where
-  pub head : r .head ≡ record { id = id; llr = clampedLog (unanchoredUnits costs k); pass = pass; units = k }
+  pub head : r .head
+      ≡ record { id = id; llr = clampedLog (unanchoredUnits costs k); pass = pass; units = k; total = unanchoredUnits costs k }
   pub units : r .units ≡ missedAt at
   pub number : T (not (isNan (r .head .llr)))
 
 -- The head and the arrays say this entry, which has at most so many units.
 pub record ScoredAs (most : ℕ) (entry : Entry) (r : Scored) : Type 0 where
-  pub whole : entryFrom (r .head) (r .units .starts) (r .units .ends) (r .units .rows) (entry .total) ≡ entry
+  pub whole : entryFrom (r .head) (r .units .starts) (r .units .ends) (r .units .rows) ≡ entry
   pub number : T (not (isNan (r .head .llr)))
+  pub totalNumber : T (not (isNan (r .head .total)))
   pub few : r .head .units ≤ most
   pub starts : length (r .units .starts) ≡ mostUnits
   pub ends : length (r .units .ends) ≡ mostUnits

@@ -62,12 +62,14 @@ fn missed_entry(id: u32, k: usize, pass: u32, costs: Costs, at: u32) -> Scored
     requires { ⌜ k ≤ mostUnits ⌝ }
     ensures { λ r. ⌜ MissedEntry id k pass costs at r ⌝ }
 {
-    let llr = clamp_log(costs.unanchored_units(k));
+    let total = costs.unanchored_units(k);
+    let llr = clamp_log(total);
     let head = EntryHead {
         id,
         llr,
         pass,
         units: k,
+        total,
     };
     let units = missed_units(at);
     Scored { head, units }
@@ -104,6 +106,7 @@ fn score_candidate<'a>(
                 llr,
                 pass,
                 units: k,
+                total: sum,
             };
             Scored { head, units }
         }

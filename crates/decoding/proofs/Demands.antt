@@ -86,7 +86,7 @@ module _ (bytes : List ℕ) (accepted : refusalOf bytes ≡ none) where
   pub ranking : Ranked (entriesOf (phraseOf bytes)) (ranked (entriesOf (phraseOf bytes)))
   ranking = ranked-is (each-follows (λ entry fits. fits .rankable) entries-fit)
 
-  -- "Words past M × 52 are untouched": the words of the entries are M × 52
+  -- "document 01's M × 52 to M × 54" (document 02, Ask 2): so many words the entries have
   pub words-long : length (allWords (limitsOf bytes .units) (ranked (entriesOf (phraseOf bytes))))
       ≡ length (phraseOf bytes .candidates) * entryWords (limitsOf bytes .units)
   words-long =

@@ -4,7 +4,9 @@ pub mod Bounded
 pub mod Units
 pub mod Admitted
 pub mod Demands
+pub mod Totals
 pub mod Decodes
 pub mod OneOutcome
+pub mod FullSum
 pub mod Alike
 pub mod Examples

@@ -49,8 +49,8 @@ pub data MeetsEach (phrase : Phrase) : List Candidate → List Entry → Type 0 
       {candidate : Candidate} {entry : Entry} {candidates : List Candidate} {entries : List Entry} →
       Meets phrase candidate entry → MeetsEach phrase candidates entries → MeetsEach phrase (candidate ∷ candidates) (entry ∷ entries)
 
--- The numbers of the phrase's edition say how long an entry and a work area are. "Words past M × 52 are untouched. Work areas, the first
--- 1,088 f64 and 1,088 u32 lent, end as all-zero bits; cells beyond are untouched."
+-- The numbers of the phrase's edition say how long an entry and a work area are. "Words past M × 52 are untouched", M × 54 since document
+-- 02, Ask 2. "Work areas, the first 1,088 f64 and 1,088 u32 lent, end as all-zero bits; cells beyond are untouched."
 pub record Written (l : Limits) (phrase : Phrase) (best : List Float) (back out : List ℕ) (best′ : List Float) (back′ out′ : List ℕ) :
     Type 0 where
   pub demands : MeetsEach phrase (phrase .candidates) (entriesOf phrase)

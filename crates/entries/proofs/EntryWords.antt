@@ -8,8 +8,8 @@ use lib.ListN.{length, take, drop, replicate, length-append, length-replicate}
 use lib.Seq.{sets, sets-eq}
 use lib.Ieee.{binary32, toBits}
 use Rattle.entries.specs.Entry.{ReportedUnit, Entry}
-use Rattle.limits.specs.Sizes.{entryWords}
-use Rattle.entries.specs.Words.{unitWords, wordsOf, allWords}
+use Rattle.limits.specs.Sizes.{headWords, entryWords}
+use Rattle.entries.specs.Words.{lowHalf, highHalf, sumBits, unitWords, wordsOf, allWords}
 use Rattle.entries.specs.inner.EntryFrom.{unitsFrom}
 use Rattle.laws.specs.inner.Each.{Each, each-none, each-more}
 use Rattle.entries.specs.inner.Placing.{Fit}
@@ -54,24 +54,25 @@ allWords-append most (x ∷ xs) ys =
 module _ (most : ℕ) (e : Entry) (l : List ℕ) (at k : ℕ) (counted : length (e .units) ≡ k) (few : k ≤ most)
     (within : at + entryWords most ≤ length l) where
   pub stored : {headed listed filled : List ℕ}
-      → headed ≡ sets l at (e .id ∷ toBits binary32 (e .llr) ∷ e .pass ∷ k ∷ [])
-      → listed ≡ sets headed (at + 4) (unitWords (e .units))
-      → filled ≡ sets listed (at + 4 + 3 * k) (replicate (at + entryWords most - (at + 4 + 3 * k)) 0)
+      → headed ≡ sets l at (e .id ∷ toBits binary32 (e .llr) ∷ e .pass ∷ k ∷ lowHalf (sumBits e) ∷ highHalf (sumBits e) ∷ [])
+      → listed ≡ sets headed (at + headWords) (unitWords (e .units))
+      → filled ≡ sets listed (at + headWords + 3 * k) (replicate (at + entryWords most - (at + headWords + 3 * k)) 0)
       → filled ≡ take at l ++ wordsOf most e ++ drop (at + entryWords most) l
   unfolding wordsOf
   stored {headed} {listed} first second third =
       let units : List ℕ = unitWords (e .units) in
       let zeros : List ℕ = replicate (3 * (most - length (e .units))) 0 in
-      let head : List ℕ = e .id ∷ toBits binary32 (e .llr) ∷ e .pass ∷ length (e .units) ∷ [] in
-      let used : at + 4 + 3 * k ≡ at + 4 + length units = omega (arith, length-unitWords (e .units)) in
-      let left : at + entryWords most - (at + 4 + 3 * k) ≡ 3 * (most - length (e .units)) = omega arith in
+      let head : ℕ → List ℕ =
+      λ n. e .id ∷ toBits binary32 (e .llr) ∷ e .pass ∷ n ∷ lowHalf (sumBits e) ∷ highHalf (sumBits e) ∷ [] in
+      let used : at + headWords + 3 * k ≡ at + headWords + length units = omega (arith, length-unitWords (e .units)) in
+      let left : at + entryWords most - (at + headWords + 3 * k) ≡ 3 * (most - length (e .units)) = omega arith in
       let size : length (wordsOf most e) ≡ entryWords most = length-wordsOf most e (omega arith) in
       third
       ∙ ap₂ (λ (n m : ℕ). sets listed n (replicate m 0)) used left
-      ∙ ap (λ (r : List ℕ). sets r (at + 4 + length units) zeros) second
-      ∙ sym (sets-append headed units zeros (at + 4))
-      ∙ ap (λ (r : List ℕ). sets r (at + 4) (units ++ zeros)) first
-      ∙ ap (λ (n : ℕ). sets (sets l at (e .id ∷ toBits binary32 (e .llr) ∷ e .pass ∷ n ∷ [])) (at + 4) (units ++ zeros)) (sym counted)
-      ∙ sym (sets-append l head (units ++ zeros) at)
+      ∙ ap (λ (r : List ℕ). sets r (at + headWords + length units) zeros) second
+      ∙ sym (sets-append headed units zeros (at + headWords))
+      ∙ ap (λ (r : List ℕ). sets r (at + headWords) (units ++ zeros)) first
+      ∙ ap (λ (n : ℕ). sets (sets l at (head n)) (at + headWords) (units ++ zeros)) (sym counted)
+      ∙ sym (sets-append l (head (length (e .units))) (units ++ zeros) at)
       ∙ sets-eq (wordsOf most e) l at (omega (arith, size))
       ∙ ap (λ (n : ℕ). take at l ++ wordsOf most e ++ drop (at + n) l) size

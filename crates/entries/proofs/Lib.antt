@@ -2,6 +2,7 @@
 mod UnitStores
 mod Places
 pub mod EntryWords
+pub mod FullSum
 pub mod Insertion
 pub mod Ranks
 pub mod RankUnique

@@ -3,3 +3,4 @@ pub mod Entry
 pub mod Words
 pub mod Ranking
 pub mod inner
+pub mod theory

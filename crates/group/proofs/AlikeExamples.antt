@@ -84,7 +84,7 @@ abbrev third : ℕ → Candidate
 third column = record { id = 3; columns = column ∷ [] }
 
 abbrev thirdWords : List ℕ
-thirdWords = 3 ∷ 0xc0100000 ∷ 0 ∷ 1 ∷ 4 ∷ 14 ∷ 0 ∷ replicate 45 0
+thirdWords = 3 ∷ 0xc0100000 ∷ 0 ∷ 1 ∷ 0 ∷ 0xc0020000 ∷ 4 ∷ 14 ∷ 0 ∷ replicate 45 0
 
 sample-third : wordsOf (limitsOf sample .units) (entryOf (phraseOf sample) (third 0)) ≡ thirdWords
 unfolding workedWords sample

@@ -51,10 +51,12 @@ unfoldable pub workedWords : ℕ → List ℕ → List ℕ
 unfolding workedEntry allWords rankOnto totalBefore toBits phraseOf layoutOf layoutFrom trailerOf u32At u64At listed ofBits ofFields trailingZeros numbersOf
 workedWords most bytes = allWords most (ranked (entriesOf (phraseOf bytes)))
 
--- candidate 3 c0100000 nuclei-strict 1: 4 14 0; candidate 9 c1000000 none 2: 4 4 -, 4 4 -
+-- candidate 3 c0100000 nuclei-strict 1: 4 14 0; candidate 9 c1000000 none 2: 4 4 -, 4 4 -. Beside the scores stand the sum -2.25, whose
+-- bits are c002000000000000, and the product -8, c020000000000000.
 abbrev sampleWords : List ℕ
 sampleWords =
-    (3 ∷ 0xc0100000 ∷ 0 ∷ 1 ∷ 4 ∷ 14 ∷ 0 ∷ replicate 45 0) ++ (9 ∷ 0xc1000000 ∷ 4 ∷ 2 ∷ 4 ∷ 4 ∷ absent ∷ 4 ∷ 4 ∷ absent ∷ replicate 42 0)
+    (3 ∷ 0xc0100000 ∷ 0 ∷ 1 ∷ 0 ∷ 0xc0020000 ∷ 4 ∷ 14 ∷ 0 ∷ replicate 45 0)
+    ++ (9 ∷ 0xc1000000 ∷ 4 ∷ 2 ∷ 0 ∷ 0xc0200000 ∷ 4 ∷ 4 ∷ absent ∷ 4 ∷ 4 ∷ absent ∷ replicate 42 0)
 
 sample-words : allWords (limitsOf sample .units) (ranked (entriesOf (phraseOf sample))) ≡ sampleWords
 unfolding workedWords sample
@@ -80,7 +82,7 @@ module _ (best : List Float) (back out : List ℕ)
   -- and every decoder that meets the contract answers 2 and writes these words
   pub sample-decoded :
       {answer : Decoded} {best′ : List Float} {back′ out′ : List ℕ} → Decodes sample best back out answer best′ back′ out′ →
-      (outcome answer ≡ accepted 2) × (out′ ≡ sampleWords ++ drop 104 out)
+      (outcome answer ≡ accepted 2) × (out′ ≡ sampleWords ++ drop 108 out)
   unfolding workedWords sample
   sample-decoded decodes = (
     decodes .answered ∙ ap (λ (o : Option Refusal). outcomeOf o (length (phraseOf sample .candidates))) sample-accepted

@@ -3,4 +3,5 @@
 mod Group
 mod ShutOut
 mod AlikeExamples
+mod FullSums
 mod SampleUnits

@@ -39,10 +39,10 @@ says-5 best back out long decodes = eqb-false 5 0 refl (ap figure (sample-decode
 -- "One that returns success over untouched words"
 untouched :
     (best : List Float) (back : List ℕ) {answer : Decoded} {best′ : List Float} {back′ : List ℕ} →
-    shortDesk (limitsOf sample) 2 (length best) (length back) 104 ≡ false →
-    Decodes sample best back (replicate 104 0) answer best′ back′ (replicate 104 0) → ⊥
+    shortDesk (limitsOf sample) 2 (length best) (length back) 108 ≡ false →
+    Decodes sample best back (replicate 108 0) answer best′ back′ (replicate 108 0) → ⊥
 untouched best back long decodes =
-    eqb-false 0 3 refl (ap (λ (out : List ℕ). getD out 0 0) (sample-decoded best back (replicate 104 0) long decodes .1))
+    eqb-false 0 3 refl (ap (λ (out : List ℕ). getD out 0 0) (sample-decoded best back (replicate 108 0) long decodes .1))
 
 -- "One that writes "none" before searching", and "one that searches for the first candidate and echoes it": by demand 3 alone, the entry
 -- of the sample's second candidate names pass 0, while the first has no path.

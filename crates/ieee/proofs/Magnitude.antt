@@ -19,7 +19,7 @@ use Rattle.ieee.specs.theory.Rounded.{rounding, Result}
 use Rattle.ieee.specs.Range.{between, within}
 use Rattle.ieee.proofs.Value.{one-pos, exact, sides, one-side, neg-real, neg-over, neg-under, value-finite, whole-mag}
 use Rattle.ieee.proofs.Order.{le-iff}
-use Rattle.ieee.proofs.Rounding.{round-real, round-mag, rounding-mono, rounding-whole, whole-under}
+use Rattle.ieee.proofs.Rounding.{round-real, round-mag, round-finite, rounding-mono, rounding-whole, whole-under}
 use Rattle.ieee.proofs.Result.{add-result, sub-result, mul-result}
 
 -- ---- what rounding does to a bound
@@ -69,6 +69,21 @@ module _ {f : Format} {x y : Float} {a b : ℕ} (p : Within f x a) (q : Within f
 
   pub product-within : a * b ≤ 2 ^ prec f → Within f (mul f x y) (a * b)
   product-within h = result-within (a * b) (one-pos f) h (mul-result (p .real) (q .real)) (omega (arith, both)) (omega (arith, both))
+
+  -- also where a * b is beyond that: a product is finite if a whole number that it does not exceed is
+  pub product-real : (n : ℕ) → a * b ≤ n → T (finite (round f false n 1)) → Real f (mul f x y)
+  product-real n h t =
+      let small = round-finite f false n 1 t in
+      let wide = mul-le-mul-right (one f * one f) h in
+      let w = mul-result (p .real) (q .real) in
+      let plus = over f x * over f y + under f x * under f y in
+      let minus = over f x * under f y + under f x * over f y in
+      let under-n : (k : ℕ) → k * 1 ≤ n * one f * one f → rounding f k (one f) < overflow f =
+      λ k l. lt-of-le-of-lt (rounding-mono f k (one f) (n * one f) 1 (one-pos f) (zero-lt-suc 0) l small) small in
+      record {
+        isFinite = w .reached (under-n (plus - minus) (omega (arith, both, wide))) (under-n (minus - plus) (omega (arith, both, wide)));
+        isHeld = w .held;
+      }
 
 pub neg-within : {f : Format} {x : Float} {a : ℕ} → Within f x a → Within f (neg x) a
 neg-within {f} {x} p = record { real = neg-real (p .real); bound = omega (arith, sides f x, sides f (neg x), neg-over f x, neg-under f x, p .bound) }

@@ -1,7 +1,8 @@
 -- What holds of each entry of a list holds of each of its parts, and so does what follows from it. Assumes nothing.
-use Prim.Native.Nat.{ℕ, zero, suc}
+use Prim.Native.Nat.{ℕ, zero, suc, _<_}
 use mathlib.Core.List.{List, [], _∷_, _++_, map}
-use lib.ListN.{take}
+use native.Mathlib.Omega.{arith}
+use lib.ListN.{length, getD, take}
 use Rattle.laws.specs.inner.Each.{Each, each-none, each-more}
 
 module _ {A : Type 0} where
@@ -12,6 +13,16 @@ module _ {A : Type 0} where
   pub each-map : {B : Type 0} {P : B → Type 0} (f : A → B) {xs : List A} → Each (λ x. P (f x)) xs → Each P (map f xs)
   each-map f each-none = each-none
   each-map f (each-more p ps) = each-more p (each-map f ps)
+
+  -- what holds at every place of a list holds of each entry, and the other way round
+  pub each-from : {P : A → Type 0} (other : A) (xs : List A) → ((i : ℕ) → i < length xs → P (getD xs i other)) → Each P xs
+  each-from other [] holds = each-none
+  each-from other (x ∷ xs) holds = each-more (holds zero (omega arith)) (each-from other xs (λ i below. holds (suc i) (omega arith)))
+
+  pub each-at : {P : A → Type 0} {xs : List A} (other : A) → Each P xs → (i : ℕ) → i < length xs → P (getD xs i other)
+  each-at other each-none i below = absurd (omega arith)
+  each-at other (each-more p ps) zero below = p
+  each-at other (each-more p ps) (suc i) below = each-at other ps i (omega arith)
 
   module _ {P : A → Type 0} where
     pub each-split : (xs : List A) {ys : List A} → Each P (xs ++ ys) → Each P xs × Each P ys

@@ -32,12 +32,12 @@ module _ {l : Limits} (m : Moderate l) where
       let size : entryWords (l .units) ≤ entryWords mostUnits = omega (arith, m .units) in
       mul-le-mul {n₂ = mostCandidates} {m₂ = entryWords mostUnits} (le-trans few (m .candidates)) size
 
--- "Candidate, 24 bytes", "52 u32 words", "the first 1,088 f64 and 1,088 u32 lent"
+-- "Candidate, 24 bytes", "from 52 to 54 words" (document 02, Ask 2), "the first 1,088 f64 and 1,088 u32 lent"
 candidate-24 : candidateBytes edition1 ≡ 24
 candidate-24 = refl
 
-entry-52 : entryWords (edition1 .units) ≡ 52
-entry-52 = refl
+entry-54 : entryWords (edition1 .units) ≡ 54
+entry-54 = refl
 
 cells-1088 : workCells edition1 ≡ 1088
 cells-1088 = refl

@@ -13,10 +13,10 @@ columnsAt = 8
 abbrev pub candidateBytes : Limits → ℕ
 candidateBytes l = columnsAt + l .units
 
--- "Result: 52 u32 words for each ranked candidate: id, llr bits, pass, unit count k, sixteen triples": the words of an entry with room
--- for so many units
+-- Document 02, Ask 2: "Each result entry grows from 52 to 54 words [..]: after the unit count come the low and high halves of the unclamped
+-- f64 sum's bits, then the triples". The words before an entry's triples, and those of an entry with room for so many units.
 abbrev pub headWords : ℕ
-headWords = 4
+headWords = 6
 
 abbrev pub entryWords : ℕ → ℕ
 entryWords units = headWords + 3 * units

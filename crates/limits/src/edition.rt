@@ -21,8 +21,8 @@ pub const COUNT_AT: usize = 4;
 
 pub const COLUMNS_AT: usize = 8;
 
-// Id, llr, pass and count of units stand before an entry's units, of three words each.
-pub const HEAD_WORDS: usize = 4;
+// Id, llr, pass, count of units and the two halves of the sum stand before an entry's units, of three words each.
+pub const HEAD_WORDS: usize = 6;
 
 pub const UNIT_WORDS: usize = 3;
 

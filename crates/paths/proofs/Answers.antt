@@ -2,17 +2,20 @@
 use mathlib.Core.Path.{_≡_, refl}
 use mathlib.Core.List.{List}
 use Prim.Native.Nat.{ℕ}
+use native.Mathlib.Nat.{le-of-eq}
 use lib.ListN.{length}
+use lib.Ieee.{Float, binary64}
+use Rattle.ieee.specs.inner.Value.{Real}
 use Rattle.laws.proofs.Tests.{by-choice}
 use Rattle.phrase.specs.Phrase.{Phrase}
 use Rattle.paths.specs.declared.passes.Strictness.the-variants.{Strict, Relaxed}
 use Rattle.paths.specs.declared.passes.Pass.{Pass}
 use Rattle.paths.specs.Problem.{Problem}
-use Rattle.paths.specs.Path.{Path}
+use Rattle.paths.specs.Path.{Path, sum}
 use Rattle.paths.specs.Cell.{Cell, empty, held}
 use Rattle.paths.specs.CellRule.{chosenPath}
 use Rattle.paths.specs.Passes.{passProblem, nonEmpty, inOrder}
-use Rattle.paths.specs.Demand.{Answer, FirstOf, here, after, EachPass, all-done, each-of, Demanded}
+use Rattle.paths.specs.Demand.{Answer, FirstOf, here, after, EachPass, all-done, each-of, Found, Demanded}
 use Rattle.paths.specs.Search.{chosen}
 use Rattle.paths.specs.theory.Finite.{Finite}
 use Rattle.paths.specs.theory.Bounded.{Figures, Ranges, fillerBound, stepBound, Room, PhraseBounded}
@@ -51,6 +54,12 @@ module _ {most : Ranges} {phrase : Phrase} {columns : List ℕ} (room : Room mos
       (λ exists. each-of (phrase-figures room (bounded .added exists) Strict)
       (each-of (phrase-figures room (bounded .added exists) Relaxed) all-done))
       (λ none. each-of (phrase-figures room (bounded .nuclei) Relaxed) all-done))
+
+  -- the sum of a path that is found is finite
+  pub found-real : {pass : Pass} {path : Path} {total : Float} → Found phrase columns pass path total
+      → Real binary64 (sum (passProblem phrase pass columns) path)
+  found-real {path = path} f =
+      finite (first-each figures (f .first)) (length columns) .sums path (f .best .admitted) (le-of-eq (f .best .counted))
 
   -- the answer by the cell rule is as demanded
   pub chosen-demanded : Demanded phrase columns (chosen phrase columns)

@@ -185,21 +185,21 @@ id-first = refl
 
 -- ---- lent buffers
 
--- work areas of 1,088 cells and an output of 2 × 52 words do
-pub room-enough : refusalWith sample 1088 1088 104 ≡ none
+-- work areas of 1,088 cells and an output of 2 × 54 words do
+pub room-enough : refusalWith sample 1088 1088 108 ≡ none
 unfolding checks refusalWith numbersOf
 room-enough = refl
 
 -- one element fewer in the first work area, in the second, in the output
-pub short-best : refusalWith sample 1087 1088 104 ≡ some Desk
+pub short-best : refusalWith sample 1087 1088 108 ≡ some Desk
 unfolding checks refusalWith numbersOf
 short-best = refl
 
-pub short-back : refusalWith sample 1088 1087 104 ≡ some Desk
+pub short-back : refusalWith sample 1088 1087 108 ≡ some Desk
 unfolding checks refusalWith numbersOf
 short-back = refl
 
-pub short-out : refusalWith sample 1088 1088 103 ≡ some Desk
+pub short-out : refusalWith sample 1088 1088 107 ≡ some Desk
 unfolding checks refusalWith numbersOf
 short-out = refl
 

@@ -4,7 +4,7 @@ use mathlib.Core.Bool.{not}
 use mathlib.Core.List.{List, [], _∷_}
 use lib.Dec.{T}
 use lib.ListN.{length, getD}
-use lib.Ieee.{Float, isNan}
+use lib.Ieee.{isNan}
 use Rattle.limits.specs.Capacity.{mostUnits}
 use Rattle.entries.specs.Entry.{ReportedUnit, Entry}
 use Rattle.entries.specs.declared.words.EntryHead.{EntryHead}
@@ -18,22 +18,23 @@ unfoldable pub unitsFrom : List ℕ → List ℕ → List ℕ → ℕ → ℕ �
 unitsFrom starts ends rows zero i = []
 unitsFrom starts ends rows (suc left) i = unitAt starts ends rows i ∷ unitsFrom starts ends rows left (suc i)
 
--- The entry that a head and the first units of three lists make. Its words say nothing of the total.
-abbrev pub entryFrom : EntryHead → List ℕ → List ℕ → List ℕ → Float → Entry
-entryFrom head starts ends rows total = record {
+-- The entry that a head and the first units of three lists make.
+abbrev pub entryFrom : EntryHead → List ℕ → List ℕ → List ℕ → Entry
+entryFrom head starts ends rows = record {
   id = head .id;
   pass = head .pass;
-  total = total;
+  total = head .total;
   llr = head .llr;
   units = unitsFrom starts ends rows (head .units) 0;
 }
 
 -- What is asked of an entry that is to be written in words with room for so many units: its units have room and stand in the three lists,
--- and its llr is no NaN.
+-- and neither its llr nor its total is a NaN.
 pub record Writable (most : ℕ) (head : EntryHead) (starts ends rows : List ℕ) : Type 0 where
   pub room : most ≤ mostUnits
   pub few : head .units ≤ most
   pub number : T (not (isNan (head .llr)))
+  pub totalNumber : T (not (isNan (head .total)))
   pub inStarts : head .units ≤ length starts
   pub inEnds : head .units ≤ length ends
   pub inRows : head .units ≤ length rows

@@ -25,6 +25,7 @@ insert-entry-requires c κs =
         room = pre .1;
         few = s .few;
         number = s .number;
+        totalNumber = s .totalNumber;
         inStarts = omega (arith, pre .1, s .few, s .starts);
         inEnds = omega (arith, pre .1, s .few, s .ends);
         inRows = omega (arith, pre .1, s .few, s .rows);
@@ -38,7 +39,7 @@ returns : tie.Need-returns
 returns c =
     let a = c .before .before .before .before .before .before .before .before .before .before .before .before .args in
     let insert = c .before .before .insert-entry in
-    λ e s. subst (λ (x : Entry). Inserted (a .most) (a .number) x (a .out .now) (insert .last .0)) (s .whole) (insert .ensures (e .total))
+    λ e s. subst (λ (x : Entry). Inserted (a .most) (a .number) x (a .out .now) (insert .last .0)) (s .whole) (insert .ensures)
 
 pub insert-scored-spec : {M : Type 1} → statement M
 insert-scored-spec =

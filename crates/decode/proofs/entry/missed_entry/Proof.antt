@@ -18,9 +18,10 @@ missed-units-requires c κs = search needs
 returns : tie.Need-returns
 returns c =
     let a = c .before .before .before .args in
-    let llr = c .before .clamp-log .ensures .value ∙ ap clampedLog (c .before .before .unanchored-units .ensures) in
+    let total = c .before .before .unanchored-units .ensures in
+    let llr = c .before .clamp-log .ensures .value ∙ ap clampedLog total in
     record {
-      head = λ i. record { id = a .id; llr = llr i; pass = a .pass; units = a .k };
+      head = λ i. record { id = a .id; llr = llr i; pass = a .pass; units = a .k; total = total i };
       units = c .missed-units .ensures;
       number = finite-number _ (c .before .clamp-log .ensures .within .real .isFinite);
     }

@@ -40,11 +40,11 @@ same-length : tie.Need-same-length
 same-length c = search needs
 
 returns : tie.Need-returns
-returns c total =
+returns c =
     let start =
     c .before .before .before .before .before .before .before .before .before .before .before .before .before .before .before .before in
     let a = start .args in
-    let e = entryFrom (a .head) (now (a .starts)) (now (a .ends)) (now (a .rows)) total in
+    let e = entryFrom (a .head) (now (a .starts)) (now (a .ends)) (now (a .rows)) in
     let counted = length-unitsFrom (now (a .starts)) (now (a .ends)) (now (a .rows)) (a .head .units) 0 in
     stored (a .most) e (now (a .out)) (a .at) (a .head .units) counted (start .pre .1 .few) (start .pre .0)
     (c .before .before .before .before .before .before .before .before .before .before .put-head .ensures)

@@ -1,10 +1,17 @@
--- `put_head`: four stores, one after the other.
+-- `put_head`: six stores, one after the other.
 use native.Mathlib.Omega.{arith}
-use native.Mathlib.Numerals.{add-one, add-two, add-three}
+use native.Mathlib.Numerals.{add-one, add-two, add-three, add-four, add-five}
 use borrow.Author.Needs.{needs}
+use mathlib.Core.Path.{sym, subst}
+use lib.Dec.{T}
 use lib.ListN.{length-set}
+use lib.Ieee.{binary64, fits}
+use lib.Ieee.Bits.{toBits-lt}
 use Rattle.entries.proofs.words.put_head.Statement.{statement}
 use Rattle.entries.proofs.words.put_head.Tie as tie
+
+float-to-bits-bits : tie.Need-float-to-bits-bits
+float-to-bits-bits c = search needs
 
 mul-out : tie.Need-mul-out
 mul-out c = search needs
@@ -45,16 +52,43 @@ mul-out-4 c = search needs
 slice-write-out-4 : tie.Need-slice-write-out-4
 slice-write-out-4 c = simp length-set (omega arith)
 
+cast-out-2 : tie.Need-cast-out-2
+cast-out-2 c = search needs
+
+add-out-4 : tie.Need-add-out-4
+add-out-4 c = search needs
+
+mul-out-5 : tie.Need-mul-out-5
+mul-out-5 c = search needs
+
+slice-write-out-5 : tie.Need-slice-write-out-5
+slice-write-out-5 c = simp length-set (omega arith)
+
+cast-out-3 : tie.Need-cast-out-3
+cast-out-3 c =
+    let held : T (fits binary64 (c .before .args .head .total)) = subst T (sym (c .before .good .1 .1 .0 .1 .1 .1 .1 .1 .1 .0 .1)) tt in
+    omega (arith, toBits-lt binary64 (c .before .args .head .total) held)
+
+add-out-5 : tie.Need-add-out-5
+add-out-5 c = search needs
+
+mul-out-6 : tie.Need-mul-out-6
+mul-out-6 c = search needs
+
+slice-write-out-6 : tie.Need-slice-write-out-6
+slice-write-out-6 c = simp length-set (omega arith)
+
 same-length : tie.Need-same-length
 same-length c = search needs
 
 returns : tie.Need-returns
-returns c = simp (add-one, add-two, add-three)
+returns c = simp (add-one, add-two, add-three, add-four, add-five)
 
 pub put-head-spec : {M : Type 1} → statement M
 put-head-spec =
     tie.close
     (tie.spec
+    float-to-bits-bits
     mul-out
     slice-write-out
     float-to-bits-out
@@ -68,5 +102,13 @@ put-head-spec =
     add-out-3
     mul-out-4
     slice-write-out-4
+    cast-out-2
+    add-out-4
+    mul-out-5
+    slice-write-out-5
+    cast-out-3
+    add-out-5
+    mul-out-6
+    slice-write-out-6
     same-length
     returns)
