@@ -1,5 +1,6 @@
-/* Makes each of the smaller calls once or twice, on worked examples and on the phrase record that
- * standard input has, and prints what comes back. */
+/* Makes each of the smaller calls once or twice, on worked examples and on the sample phrase, which
+ * standard input has, and prints what comes back; then decodes that phrase and prints, of each
+ * candidate, the score and the full sum. */
 #include <inttypes.h>
 #include <math.h>
 #include <stdio.h>
@@ -59,22 +60,70 @@ static void print_most(const char *of, int32_t most)
         printf("most units %s: %" PRId32 "\n", of, most);
 }
 
-/* The sample phrase: of its two candidates one has two units, for which there is no path. */
-static void most_units(void)
+/* Of the phrase's two candidates one has two units, for which there is no path. */
+static void most_units(const uint8_t *record, size_t len)
 {
-    static uint8_t record[TIKUWERO_MAX_RECORD + 1];
-    size_t len = fread(record, 1, sizeof record, stdin);
     print_most("of nuclei, relaxed", tikuwero_most_units(record, len, 0, 0));
     print_most("of nuclei, strict", tikuwero_most_units(record, len, 0, 1));
     print_most("of the added stage", tikuwero_most_units(record, len, 1, 0));
     print_most("refused", tikuwero_most_units(record, 63, 0, 0));
 }
 
+/* The sum that stands in two words of an entry, as the header has it. */
+static double sum_of(const uint32_t *entry)
+{
+    uint64_t low = entry[TIKUWERO_ENTRY_SUM_LOW], high = entry[TIKUWERO_ENTRY_SUM_HIGH];
+    uint64_t bits = low | high << 32;
+    double sum;
+    memcpy(&sum, &bits, sizeof sum);
+    return sum;
+}
+
+static float llr_of(const uint32_t *entry)
+{
+    float llr;
+    memcpy(&llr, &entry[TIKUWERO_ENTRY_LLR], sizeof llr);
+    return llr;
+}
+
+/* The words as they are, and what they are as numbers: nine digits tell floats apart, 17 doubles. */
+static void print_entries(const uint8_t *record, size_t len)
+{
+    static double best[TIKUWERO_WORK_CELLS];
+    static uint32_t back[TIKUWERO_WORK_CELLS];
+    static uint32_t out[TIKUWERO_MAX_OUT];
+
+    int32_t candidates = tikuwero_decode(record, len, best, TIKUWERO_WORK_CELLS, back,
+                                         TIKUWERO_WORK_CELLS, out, TIKUWERO_MAX_OUT);
+    for (int32_t i = 0; i < candidates; i++) { /* a refusal is below 0, and has no entries */
+        const uint32_t *entry = out + i * TIKUWERO_ENTRY_WORDS;
+        printf("candidate %" PRIu32 ": ", entry[TIKUWERO_ENTRY_ID]);
+        printf("score %08" PRIx32 " %.9g, ", entry[TIKUWERO_ENTRY_LLR], llr_of(entry));
+        printf("sum %08" PRIx32 "%08" PRIx32 " %.17g\n", entry[TIKUWERO_ENTRY_SUM_HIGH],
+               entry[TIKUWERO_ENTRY_SUM_LOW], sum_of(entry));
+    }
+}
+
+/* The phrase, and the same without speech and with an unvoiced score of 1,000,000, by which both
+ * candidates have the highest score: their sums tell them apart. docs/FORMAT.md has the places. */
+static void sums(uint8_t *record, size_t len)
+{
+    static const uint8_t million[] = {0x00, 0x24, 0x74, 0x49};
+    print_entries(record, len);
+    memcpy(record + 100, million, sizeof million);
+    memset(record + 104, 0xff, 8);
+    printf("without speech\n");
+    print_entries(record, len);
+}
+
 int main(void)
 {
+    static uint8_t record[TIKUWERO_MAX_RECORD + 1];
+    size_t len = fread(record, 1, sizeof record, stdin);
     rates();
     spans();
     marks();
-    most_units();
+    most_units(record, len);
+    sums(record, len);
     return 0;
 }

@@ -1,5 +1,5 @@
-//! Makes each of the smaller calls once or twice, on worked examples, as calls.c does, and decodes a record. It is in the
-//! file that the argument names.
+//! Makes each of the smaller calls once or twice, on worked examples and on the sample phrase, as calls.c does; then
+//! decodes that phrase and prints, of each candidate, the score and the full sum. The argument names the phrase's file.
 
 mod tikuwero;
 
@@ -41,7 +41,7 @@ fn marks() {
     );
 }
 
-/// The sample phrase: of its two candidates one has two units, for which there is no path.
+/// Of the phrase's two candidates one has two units, for which there is no path.
 fn most_units(file: &str) {
     let record = std::fs::read(file).expect("the file can be read");
     for stage in [Stage::Nuclei, Stage::Added] {
@@ -64,6 +64,26 @@ fn best(file: &str) -> Result<u32, Refusal> {
     }
 }
 
+fn print_entries(desk: &mut Desk, record: &[u8]) {
+    for entry in desk.decode(record).expect("the record is accepted") {
+        let (id, llr, sum) = (entry.id(), entry.llr(), entry.sum());
+        let (llr_bits, sum_bits) = (llr.to_bits(), sum.to_bits());
+        println!("candidate {id}: score {llr_bits:08x} {llr}, sum {sum_bits:016x} {sum}");
+    }
+}
+
+/// The phrase, and the same without speech and with an unvoiced score of 1,000,000, by which both candidates have the
+/// highest score: their sums tell them apart. docs/FORMAT.md has the places.
+fn sums(file: &str) {
+    let mut record = std::fs::read(file).expect("the file can be read");
+    let mut desk = Desk::new();
+    print_entries(&mut desk, &record);
+    record[100..104].copy_from_slice(&1_000_000_f32.to_le_bytes());
+    record[104..112].fill(0xff);
+    println!("without speech");
+    print_entries(&mut desk, &record);
+}
+
 fn main() {
     rates();
     spans();
@@ -71,4 +91,5 @@ fn main() {
     let file = std::env::args().nth(1).expect("the argument is a file");
     most_units(&file);
     println!("best candidate {:?}", best(&file));
+    sums(&file);
 }

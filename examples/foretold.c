@@ -1,5 +1,5 @@
 /* Calls of the six entries with the answers that the header's text foretells, worked out before they were made. Decoding is
- * given the sample phrase on standard input, altered at places that docs/FORMAT.md names; the scores are foretold by that page.
+ * given the sample phrase on standard input, altered at places that docs/FORMAT.md names; that page foretells scores and sums.
  * The most units are asked for of such records too, and of some that are laid out here.
  * Prints how many of each entry came out as foretold; the exit status is 1 if one did not. */
 #include <inttypes.h>
@@ -18,6 +18,13 @@ static int missed;
 static uint64_t double_bits(double x)
 {
     uint64_t bits;
+    memcpy(&bits, &x, sizeof bits);
+    return bits;
+}
+
+static uint32_t float_bits(float x)
+{
+    uint32_t bits;
     memcpy(&bits, &x, sizeof bits);
     return bits;
 }
@@ -255,16 +262,17 @@ static void foretell_tails(void)
 #define SAMPLE_BYTES 1376
 #define CELLS TIKUWERO_WORK_CELLS
 #define SPARE 4 /* cells that are lent beyond those needed, or not lent at all */
-#define CHANGES 2
+#define CHANGES 7
 
 struct change {
     size_t at, bytes; /* 0 bytes: no change */
     uint64_t value;
 };
 
-/* The first ten words of an entry; all after them are foretold to be 0. */
+/* The first fifteen words of an entry: id, score, pass, number of units, low and high half of the sum, then up to three units.
+ * All after them are foretold to be 0. */
 struct entry {
-    uint32_t words[10];
+    uint32_t words[15];
 };
 
 struct decode_case {
@@ -276,17 +284,39 @@ struct decode_case {
 };
 
 #define LENT SAMPLE_BYTES, CELLS, CELLS, TIKUWERO_MAX_OUT
-#define ENTRY_3 {{3, 0xc0100000, 0, 1, 4, 14, 0}}
-#define ENTRY_9 {{9, 0xc1000000, 4, 2, 4, 4, NONE, 4, 4, NONE}}
+#define ENTRY_3 {{3, 0xc0100000, 0, 1, 0, 0xc0020000, 4, 14, 0}}
+#define ENTRY_9 {{9, 0xc1000000, 4, 2, 0, 0xc0200000, 4, 4, NONE, 4, 4, NONE}}
 #define NO_ENTRIES {{{0}}, {{0}}}
+
+/* Changes of the sample, by the bits of what is put there. DURATION is that of 10 frames. */
+#define NO_NUCLEI {1324, 4, 0}
+#define SCORE(bits) {32, 4, bits}
+#define PER_FRAME(bits) {84, 8, UINT64_C(bits)}
+#define INSERTION(bits) {92, 8, UINT64_C(bits)}
+#define UNVOICED(bits) {100, 4, bits}
+#define DURATION_9(bits) {136, 8, UINT64_C(bits)}
+#define DURATION(bits) {144, 8, UINT64_C(bits)}
+#define UNITS_OF_9(k) {40, 4, k}
+#define UNITS_OF_3(k) {64, 4, k}
+/* A section's count and pointer, and what stands in the second duration table, from byte 712 on, which is not read without an
+ * added stage: two columns, with the scores of candidates 9 and 3, which both have one unit then; three boundaries. */
+#define SECTION(at, count, pointer) {at, 8, UINT64_C(pointer) << 32 | (count)}
+#define SCORES(of_9, of_3) SECTION(1356, 2, 600), {712, 8, UINT64_C(of_3) << 32 | (of_9)}, UNITS_OF_9(1), {68, 1, 1}
+#define BOUNDARIES_4_5_14 SECTION(1332, 3, 600), {712, 8, UINT64_C(5) << 32 | 4}, {720, 4, 14}
+
+/* Entries with the sample's path, and those of one to three units without a path. */
+#define UNIT_OF(id, llr, low, high) {{id, llr, 0, 1, low, high, 4, 14, 0}}
+#define ONE_LOST(id, llr, pass, low, high) {{id, llr, pass, 1, low, high, 4, 4, NONE}}
+#define TWO_LOST(id, llr, pass, low, high) {{id, llr, pass, 2, low, high, 4, 4, NONE, 4, 4, NONE}}
+#define THREE_LOST(id, llr, pass, low, high) {{id, llr, pass, 3, low, high, 4, 4, NONE, 4, 4, NONE, 4, 4, NONE}}
 
 static const struct decode_case decodes[] = {
     {LENT, {{0}}, 2, {ENTRY_3, ENTRY_9}},
-    {SAMPLE_BYTES, CELLS + SPARE, CELLS + SPARE, 104, {{0}}, 2, {ENTRY_3, ENTRY_9}},
+    {SAMPLE_BYTES, CELLS + SPARE, CELLS + SPARE, 108, {{0}}, 2, {ENTRY_3, ENTRY_9}},
     {0, 0, 0, 0, {{0}}, -TIKUWERO_STUB, NO_ENTRIES},
-    {63, CELLS, CELLS, 104, {{0}}, -TIKUWERO_STUB, NO_ENTRIES},
-    {65536, CELLS, CELLS, 104, {{0}}, 2, {ENTRY_3, ENTRY_9}},
-    {65537, CELLS, CELLS, 104, {{0}}, -TIKUWERO_STUB, NO_ENTRIES},
+    {63, CELLS, CELLS, 108, {{0}}, -TIKUWERO_STUB, NO_ENTRIES},
+    {65536, CELLS, CELLS, 108, {{0}}, 2, {ENTRY_3, ENTRY_9}},
+    {65537, CELLS, CELLS, 108, {{0}}, -TIKUWERO_STUB, NO_ENTRIES},
     {LENT, {{1312, 4, 2}, {0, 1, 2}}, -TIKUWERO_EDITION, NO_ENTRIES},
     {LENT, {{1316, 4, 2049}}, -TIKUWERO_SIZE, NO_ENTRIES},
     {LENT, {{1356, 4, 0}}, -TIKUWERO_SIZE, NO_ENTRIES},
@@ -300,30 +330,115 @@ static const struct decode_case decodes[] = {
     {LENT, {{40, 4, 17}}, -TIKUWERO_UNITS, NO_ENTRIES},
     {LENT, {{44, 1, 1}, {60, 4, 9}}, -TIKUWERO_COLUMN, NO_ENTRIES},
     {LENT, {{46, 1, 1}}, 2, {ENTRY_3, ENTRY_9}},
-    {SAMPLE_BYTES, CELLS - 1, CELLS, 104, {{0}}, -TIKUWERO_DESK, NO_ENTRIES},
-    {SAMPLE_BYTES, CELLS, CELLS - 1, 104, {{0}}, -TIKUWERO_DESK, NO_ENTRIES},
-    {SAMPLE_BYTES, CELLS, CELLS, 103, {{0}}, -TIKUWERO_DESK, NO_ENTRIES},
-    {SAMPLE_BYTES, CELLS, CELLS, 52, {{1364, 4, 1}}, 1, {ENTRY_9, {{0}}}},
+    {SAMPLE_BYTES, CELLS - 1, CELLS, 108, {{0}}, -TIKUWERO_DESK, NO_ENTRIES},
+    {SAMPLE_BYTES, CELLS, CELLS - 1, 108, {{0}}, -TIKUWERO_DESK, NO_ENTRIES},
+    {SAMPLE_BYTES, CELLS, CELLS, 107, {{0}}, -TIKUWERO_DESK, NO_ENTRIES},
+    {SAMPLE_BYTES, CELLS, CELLS, 54, {{1364, 4, 1}}, 1, {ENTRY_9, {{0}}}},
+    {SAMPLE_BYTES, CELLS, CELLS, 53, {{1364, 4, 1}}, -TIKUWERO_DESK, NO_ENTRIES},
     /* no speech: no pass, so k times the unvoiced score, and empty spans at 0 */
     {LENT, {{104, 8, UINT64_MAX}}, 2,
-     {{{3, 0xc0800000, 4, 1, 0, 0, NONE}}, {{9, 0xc1000000, 4, 2, 0, 0, NONE, 0, 0, NONE}}}},
+     {{{3, 0xc0800000, 4, 1, 0, 0xc0100000, 0, 0, NONE}},
+      {{9, 0xc1000000, 4, 2, 0, 0xc0200000, 0, 0, NONE, 0, 0, NONE}}}},
     /* the only nucleus is outside the mask */
     {LENT, {{7, 1, 0}}, 2,
-     {{{3, 0xc0800000, 5, 1, 4, 4, NONE}}, {{9, 0xc1000000, 5, 2, 4, 4, NONE, 4, 4, NONE}}}},
+     {ONE_LOST(3, 0xc0800000, 5, 0, 0xc0100000), TWO_LOST(9, 0xc1000000, 5, 0, 0xc0200000)}},
     /* the unvoiced score is -0 and no nucleus within the mask: equal scores keep the record's order */
-    {LENT, {{7, 1, 0}, {100, 4, 0x80000000}}, 2,
-     {{{9, 0x80000000, 5, 2, 4, 4, NONE, 4, 4, NONE}}, {{3, 0x80000000, 5, 1, 4, 4, NONE}}}},
+    {LENT, {{7, 1, 0}, UNVOICED(0x80000000)}, 2,
+     {TWO_LOST(9, 0x80000000, 5, 0, 0x80000000), ONE_LOST(3, 0x80000000, 5, 0, 0x80000000)}},
     /* the score is 5.25, so that candidate 3 has -2 + (5.25 - 0.25) - 3 = +0, and candidate 9 has 2 * -0 */
-    {LENT, {{32, 4, 0x40a80000}, {100, 4, 0x80000000}}, 2,
-     {{{3, 0, 0, 1, 4, 14, 0}}, {{9, 0x80000000, 4, 2, 4, 4, NONE, 4, 4, NONE}}}},
+    {LENT, {SCORE(0x40a80000), UNVOICED(0x80000000)}, 2,
+     {UNIT_OF(3, 0, 0, 0), TWO_LOST(9, 0x80000000, 4, 0, 0x80000000)}},
     /* a frame costs nothing: 3 - 0.25 is left */
-    {LENT, {{84, 8, 0}}, 2, {{{3, 0x40300000, 0, 1, 4, 14, 0}}, ENTRY_9}},
+    {LENT, {PER_FRAME(0)}, 2, {UNIT_OF(3, 0x40300000, 0, 0x40060000), ENTRY_9}},
+
+    /* The other passes with a path. Nucleus 15 is in no unit: -2 + (-4 - 0.25) - (3 + 2) = -11.25. Then no boundaries, but an
+     * added stage, whose lists and scores share the bytes of others: anchor 7, with row 1, gives -2 + (3 + 0) - 3 = -2, and
+     * anchor 14, which is in no unit, -2 + (-4 + 0) - 3 = -9. */
+    {LENT, {{20, 4, 15}}, 2, {ENTRY_9, {{3, 0xc1340000, 3, 1, 0, 0xc0268000, 4, 14, NONE}}}},
+    {LENT, {{1332, 4, 0}, SECTION(1340, 1, 1292), SECTION(1348, 2, 1288), {1360, 4, 1284}}, 2,
+     {{{3, 0xc0000000, 1, 1, 0, 0xc0000000, 4, 14, 1}}, ENTRY_9}},
+    {LENT, {{1332, 4, 0}, SECTION(1340, 1, 1284), SECTION(1348, 2, 1288), {1360, 4, 1284}}, 2,
+     {ENTRY_9, {{3, 0xc1100000, 2, 1, 0, 0xc0220000, 4, 14, NONE}}}},
+
+    /* Sums past the limits. Their scores are equal, so the record's order stands, whichever sum is the larger.
+     * Without a path: 2 * 1,000,000 before 1 * 1,000,000 and behind it; 2 * -1,000,000 before 1 * -1,000,000 and behind it. */
+    {LENT, {NO_NUCLEI, UNVOICED(0x49742400)}, 2,
+     {TWO_LOST(9, 0x49742400, 5, 0, 0x413e8480), ONE_LOST(3, 0x49742400, 5, 0, 0x412e8480)}},
+    {LENT, {NO_NUCLEI, UNVOICED(0x49742400), UNITS_OF_9(1), UNITS_OF_3(2)}, 2,
+     {ONE_LOST(9, 0x49742400, 5, 0, 0x412e8480), TWO_LOST(3, 0x49742400, 5, 0, 0x413e8480)}},
+    {LENT, {NO_NUCLEI, UNVOICED(0xc9742400)}, 2,
+     {TWO_LOST(9, 0xc9742400, 5, 0, 0xc13e8480), ONE_LOST(3, 0xc9742400, 5, 0, 0xc12e8480)}},
+    {LENT, {NO_NUCLEI, UNVOICED(0xc9742400), UNITS_OF_9(1), UNITS_OF_3(2)}, 2,
+     {ONE_LOST(9, 0xc9742400, 5, 0, 0xc12e8480), TWO_LOST(3, 0xc9742400, 5, 0, 0xc13e8480)}},
+    /* paths, with per_frame -1,000: 4,000 + (score - 0.25) + 6,000 is 1,008,999.75 for 999,000, 1,009,999.75 for 1,000,000 */
+    {LENT, {PER_FRAME(0xc08f400000000000), SCORES(0x4973e580, 0x49742400)}, 2,
+     {UNIT_OF(9, 0x49742400, 0x80000000, 0x412ecacf), UNIT_OF(3, 0x49742400, 0x80000000, 0x412ed29f)}},
+    {LENT, {PER_FRAME(0xc08f400000000000), SCORES(0x49742400, 0x4973e580)}, 2,
+     {UNIT_OF(9, 0x49742400, 0x80000000, 0x412ed29f), UNIT_OF(3, 0x49742400, 0x80000000, 0x412ecacf)}},
+    /* paths, with per_frame 1,000: -1,010,000.25 for -1,000,000 and -1,009,000.25 for -999,000 */
+    {LENT, {PER_FRAME(0x408f400000000000), SCORES(0xc9742400, 0xc973e580)}, 2,
+     {UNIT_OF(9, 0xc9742400, 0x80000000, 0xc12ed2a0), UNIT_OF(3, 0xc9742400, 0x80000000, 0xc12ecad0)}},
+    {LENT, {PER_FRAME(0x408f400000000000), SCORES(0xc973e580, 0xc9742400)}, 2,
+     {UNIT_OF(9, 0xc9742400, 0x80000000, 0xc12ecad0), UNIT_OF(3, 0xc9742400, 0x80000000, 0xc12ed2a0)}},
+    /* 2 * 1,000,000 without a path, before the path with 1,009,999.75; then a path with 1,000,000 itself */
+    {LENT, {PER_FRAME(0xc08f400000000000), SCORE(0x49742400), UNVOICED(0x49742400)}, 2,
+     {TWO_LOST(9, 0x49742400, 4, 0, 0x413e8480), UNIT_OF(3, 0x49742400, 0x80000000, 0x412ed29f)}},
+    {LENT, {PER_FRAME(0), DURATION(0), SCORE(0x49742400)}, 2, {UNIT_OF(3, 0x49742400, 0, 0x412e8480), ENTRY_9}},
+
+    /* Products, which are rounded to an f32 first: 3 * 0.1f, without a nucleus and with one; 3 * 999,999.9375, which is
+     * 2,999,999.8125 before and 2,999,999.75 after; 2 * 2^-149, too small for a normal f32 */
+    {LENT, {NO_NUCLEI, UNVOICED(0x3dcccccd), UNITS_OF_9(3)}, 2,
+     {THREE_LOST(9, 0x3e99999a, 5, 0x40000000, 0x3fd33333), ONE_LOST(3, 0x3dcccccd, 5, 0xa0000000, 0x3fb99999)}},
+    {LENT, {UNVOICED(0x3dcccccd), UNITS_OF_9(3), UNITS_OF_3(2)}, 2,
+     {THREE_LOST(9, 0x3e99999a, 4, 0x40000000, 0x3fd33333), TWO_LOST(3, 0x3e4ccccd, 4, 0xa0000000, 0x3fc99999)}},
+    {LENT, {NO_NUCLEI, UNVOICED(0x497423ff), UNITS_OF_9(3)}, 2,
+     {THREE_LOST(9, 0x49742400, 5, 0xe0000000, 0x4146e35f), ONE_LOST(3, 0x497423ff, 5, 0xe0000000, 0x412e847f)}},
+    {LENT, {NO_NUCLEI, UNVOICED(1)}, 2, {TWO_LOST(9, 2, 5, 0, 0x36b00000), ONE_LOST(3, 1, 5, 0, 0x36a00000)}},
+
+    /* Zeros. With per_frame 0 a path starts with -0 and subtracts +0 at its end. Between them candidate 9 adds -0 + -0 and
+     * candidate 3 0 + -0. With per_frame -0 and insertion_llr 2 it starts with +0: +0 + (-0 + -0) - -0 is +0. */
+    {LENT, {PER_FRAME(0), DURATION(0x8000000000000000), SCORES(0x80000000, 0)}, 2,
+     {UNIT_OF(3, 0, 0, 0), UNIT_OF(9, 0x80000000, 0, 0x80000000)}},
+    {LENT,
+     {PER_FRAME(0x8000000000000000), INSERTION(0x4000000000000000), DURATION(0x8000000000000000), SCORE(0x80000000)}, 2,
+     {UNIT_OF(3, 0, 0, 0), ENTRY_9}},
+    /* units 4..14 and 5..14, of which one gives -0 and one +0: these are equal, so the first is taken, with its own zero */
+    {LENT, {BOUNDARIES_4_5_14, PER_FRAME(0), SCORE(0x80000000), DURATION(0x8000000000000000), DURATION_9(0)}, 2,
+     {{{3, 0x80000000, 0, 1, 0, 0x80000000, 5, 14, 0}}, ENTRY_9}},
+    {LENT, {BOUNDARIES_4_5_14, PER_FRAME(0), SCORE(0x80000000), DURATION(0), DURATION_9(0x8000000000000000)}, 2,
+     {{{3, 0, 0, 1, 0, 0, 5, 14, 0}}, ENTRY_9}},
+
+    /* Scores that are zeros with the sign of a sum that is none. 0 - 2^-150 and 2^-149 - 2^-150, each midway between two f32;
+     * the f64 next to 0 as the duration, then for each of ten frames, subtracted and added */
+    {LENT, {PER_FRAME(0), DURATION(0xb690000000000000), SCORES(0, 1)}, 2,
+     {UNIT_OF(3, 0, 0, 0x36900000), UNIT_OF(9, 0x80000000, 0, 0xb6900000)}},
+    {LENT, {PER_FRAME(0), DURATION(0x8000000000000001), SCORE(0)}, 2,
+     {UNIT_OF(3, 0x80000000, 1, 0x80000000), ENTRY_9}},
+    {LENT, {PER_FRAME(1), DURATION(0), SCORE(0)}, 2, {UNIT_OF(3, 0x80000000, 10, 0x80000000), ENTRY_9}},
+    {LENT, {PER_FRAME(0x8000000000000001), DURATION(0), SCORE(0)}, 2, {UNIT_OF(3, 0, 10, 0), ENTRY_9}},
+    /* the last two behind 2 * -0 and behind 2 * 0, with scores of the same bits */
+    {LENT, {PER_FRAME(1), DURATION(0), SCORE(0), UNVOICED(0x80000000)}, 2,
+     {TWO_LOST(9, 0x80000000, 4, 0, 0x80000000), UNIT_OF(3, 0x80000000, 10, 0x80000000)}},
+    {LENT, {PER_FRAME(0x8000000000000001), DURATION(0), SCORE(0), UNVOICED(0)}, 2,
+     {TWO_LOST(9, 0, 4, 0, 0), UNIT_OF(3, 0, 10, 0)}},
+
+    /* Sums that an f32 cannot hold. 3 - 0.1; with per_frame 0.7, -2.8 + (1,000,000 - 1,000,000) - 0.7 * 6, which is next to -7,
+     * and further off where score and duration are added one by one; -1 + 2^-31 and -1 + 2^-30, both -1 as an f32 */
+    {LENT, {PER_FRAME(0), DURATION(0xbfb999999999999a)}, 2, {UNIT_OF(3, 0x4039999a, 0x33333333, 0x40073333), ENTRY_9}},
+    {LENT, {PER_FRAME(0x3fe6666666666666), DURATION(0xc12e848000000000), SCORE(0x49742400)}, 2,
+     {UNIT_OF(3, 0xc0e00000, 0xffffffff, 0xc01bffff), ENTRY_9}},
+    {LENT, {PER_FRAME(0), DURATION(0xbff0000000000000), SCORES(0x30000000, 0x30800000)}, 2,
+     {UNIT_OF(9, 0xbf800000, 0xffc00000, 0xbfefffff), UNIT_OF(3, 0xbf800000, 0xff800000, 0xbfefffff)}},
+    {LENT, {PER_FRAME(0), DURATION(0xbff0000000000000), SCORES(0x30800000, 0x30000000)}, 2,
+     {UNIT_OF(9, 0xbf800000, 0xff800000, 0xbfefffff), UNIT_OF(3, 0xbf800000, 0xffc00000, 0xbfefffff)}},
 };
 
 /* One byte more than a record may have; the sample stands at its end. */
 static uint8_t sample[SAMPLE_BYTES], record[TIKUWERO_MAX_RECORD + 1];
+static uint8_t *const altered_sample = record + sizeof record - SAMPLE_BYTES;
 static double best[CELLS + SPARE];
 static uint32_t back[CELLS + SPARE], out[TIKUWERO_MAX_OUT + SPARE];
+static uint32_t foretold_out[TIKUWERO_MAX_OUT + SPARE];
 
 static void put(uint8_t *at, struct change change)
 {
@@ -333,47 +448,101 @@ static void put(uint8_t *at, struct change change)
 
 static const uint8_t *altered(size_t record_len, const struct change changes[CHANGES])
 {
-    uint8_t *at = record + sizeof record - SAMPLE_BYTES;
     memset(record, 0, sizeof record);
-    memcpy(at, sample, SAMPLE_BYTES);
+    memcpy(altered_sample, sample, SAMPLE_BYTES);
     for (size_t k = 0; k < CHANGES; k++)
-        put(at, changes[k]);
+        put(altered_sample, changes[k]);
     return record + sizeof record - record_len;
 }
 
-/* Every cell of the work areas and every word of the output. */
-static int lent_as_foretold(const struct decode_case *c)
+/* What is lent before a call; nothing of the output is foretold yet to be written. */
+static void lend(void)
 {
-    int same = 1;
-    size_t entries = c->returned < 0 ? 0 : (size_t)c->returned;
-    for (size_t i = 0; i < COUNT(best); i++) {
-        int used = c->returned > 0 && i < CELLS;
-        same &= double_bits(best[i]) == (used ? 0 : double_bits(-7.0)) && back[i] == (used ? 0 : UNTOUCHED);
+    for (size_t k = 0; k < COUNT(best); k++) {
+        best[k] = -7.0;
+        back[k] = UNTOUCHED;
     }
-    for (size_t i = 0; i < COUNT(out); i++) {
-        size_t entry = i / TIKUWERO_ENTRY_WORDS, word = i % TIKUWERO_ENTRY_WORDS;
-        uint32_t written = entry < entries && word < 10 ? c->entries[entry].words[word] : 0;
-        same &= out[i] == (entry < entries ? written : UNTOUCHED);
+    for (size_t k = 0; k < COUNT(out); k++)
+        out[k] = foretold_out[k] = UNTOUCHED;
+}
+
+/* The words of the entry at a place of the foretold output, all 0 at first. */
+static uint32_t *foretold_entry(size_t place)
+{
+    uint32_t *words = foretold_out + place * TIKUWERO_ENTRY_WORDS;
+    memset(words, 0, TIKUWERO_ENTRY_WORDS * sizeof *words);
+    return words;
+}
+
+/* Every cell of the work areas and every word of the output. */
+static int lent_as_foretold(int accepted)
+{
+    int same = memcmp(out, foretold_out, sizeof out) == 0;
+    for (size_t i = 0; i < COUNT(best); i++) {
+        int used = accepted && i < CELLS;
+        same &= double_bits(best[i]) == (used ? 0 : double_bits(-7.0)) && back[i] == (used ? 0 : UNTOUCHED);
     }
     return same;
 }
 
+static size_t decode_held(size_t i, const struct decode_case *c)
+{
+    lend();
+    for (int32_t k = 0; k < c->returned; k++)
+        memcpy(foretold_entry((size_t)k), c->entries[k].words, sizeof c->entries[k].words);
+    int32_t returned = tikuwero_decode(altered(c->record_len, c->changes), c->record_len, best, c->best_len, back,
+                                       c->back_len, out, c->out_len);
+    return held("decode", i, returned == c->returned && lent_as_foretold(returned > 0), returned);
+}
+
+/* The sample with sixteen candidates, which stand in the second duration table: candidate i has id i and 16 - i units. */
+static void lay_out_sixteen(void)
+{
+    static const struct change section[CHANGES] = {SECTION(1364, 16, 600)};
+    altered(SAMPLE_BYTES, section);
+    for (uint32_t i = 0; i < 16; i++) {
+        struct change candidate = {712 + 24 * i, 8, (uint64_t)(16 - i) << 32 | i};
+        put(altered_sample, candidate);
+    }
+}
+
+/* The last of them has the sample's path, and k units have k * -4: so the last is the best, and the others follow backwards.
+ * The last entry has sixteen units, which go up to its last word. */
+static void foretell_sixteen(void)
+{
+    static const struct entry with_path = ENTRY_3;
+    static const uint32_t lost[3] = {4, 4, NONE};
+    memcpy(foretold_entry(0), with_path.words, sizeof with_path.words);
+    foretold_out[TIKUWERO_ENTRY_ID] = 15;
+    for (uint32_t units = 2; units <= 16; units++) {
+        uint32_t *words = foretold_entry(units - 1);
+        words[TIKUWERO_ENTRY_ID] = 16 - units;
+        words[TIKUWERO_ENTRY_LLR] = float_bits(-4.0f * (float)units);
+        words[TIKUWERO_ENTRY_PASS] = TIKUWERO_NO_PATH;
+        words[TIKUWERO_ENTRY_COUNT] = units;
+        words[TIKUWERO_ENTRY_SUM_HIGH] = (uint32_t)(double_bits(-4.0 * units) >> 32);
+        for (uint32_t k = 0; k < units; k++)
+            memcpy(words + TIKUWERO_ENTRY_UNITS + 3 * k, lost, sizeof lost);
+    }
+}
+
+/* An output that they fill to the last word, and one that is a word too short. */
+static size_t sixteen_held(size_t out_len, int32_t foretold)
+{
+    lend();
+    lay_out_sixteen();
+    if (foretold > 0)
+        foretell_sixteen();
+    int32_t returned = tikuwero_decode(altered_sample, SAMPLE_BYTES, best, CELLS, back, CELLS, out, out_len);
+    return held("decode of sixteen", out_len, returned == foretold && lent_as_foretold(returned > 0), returned);
+}
+
 static void foretell_decodes(void)
 {
-    size_t as_foretold = 0;
-    for (size_t i = 0; i < COUNT(decodes); i++) {
-        const struct decode_case *c = &decodes[i];
-        for (size_t k = 0; k < COUNT(best); k++) {
-            best[k] = -7.0;
-            back[k] = UNTOUCHED;
-        }
-        for (size_t k = 0; k < COUNT(out); k++)
-            out[k] = UNTOUCHED;
-        int32_t returned = tikuwero_decode(altered(c->record_len, c->changes), c->record_len, best, c->best_len, back,
-                                           c->back_len, out, c->out_len);
-        as_foretold += held("decode", i, returned == c->returned && lent_as_foretold(c), returned);
-    }
-    conclude("decode", as_foretold, COUNT(decodes));
+    size_t as_foretold = sixteen_held(864, 16) + sixteen_held(863, -TIKUWERO_DESK);
+    for (size_t i = 0; i < COUNT(decodes); i++)
+        as_foretold += decode_held(i, &decodes[i]);
+    conclude("decode", as_foretold, 2 + COUNT(decodes));
 }
 
 /* ---- tikuwero_most_units; of each record four answers: nuclei relaxed, nuclei strict, added stage relaxed, added strict */

@@ -11,7 +11,7 @@ pub const MAX_CANDIDATES: usize = 16;
 pub const MAX_UNITS: usize = 16;
 pub const MAX_FRAMES: usize = 64;
 const WORK_CELLS: usize = 1088;
-const ENTRY_WORDS: usize = 52;
+const ENTRY_WORDS: usize = 54;
 const NONE: u32 = u32::MAX;
 const NO_BOUNDARY: u32 = i32::MAX as u32;
 
@@ -181,9 +181,15 @@ impl<'a> Entry<'a> {
         self.0[0]
     }
 
-    /// The score.
+    /// The score, by which alone entries are ranked: the sum, brought within ±1,000,000 and rounded to f32.
     pub fn llr(self) -> f32 {
         f32::from_bits(self.0[1])
+    }
+
+    /// The full sum: that of the path or, where there is none, the number of units times the unvoiced score, an f32
+    /// product. A zero has its own sign.
+    pub fn sum(self) -> f64 {
+        f64::from_bits(u64::from(self.0[4]) | u64::from(self.0[5]) << 32)
     }
 
     pub fn pass(self) -> Pass {
@@ -191,7 +197,7 @@ impl<'a> Entry<'a> {
     }
 
     pub fn units(self) -> Units<'a> {
-        Units(&self.0[4..4 + 3 * self.0[3] as usize])
+        Units(&self.0[6..6 + 3 * self.0[3] as usize])
     }
 }
 

@@ -79,7 +79,7 @@ static inline const char *tikuwero_refusal_word(int32_t returned)
 #define TIKUWERO_MAX_CANDIDATES 16 /* candidates of a record */
 #define TIKUWERO_MAX_UNITS 16      /* units of a candidate; tikuwero_most_units counts up to it */
 #define TIKUWERO_WORK_CELLS 1088   /* cells of each work area */
-#define TIKUWERO_ENTRY_WORDS 52    /* words of an entry */
+#define TIKUWERO_ENTRY_WORDS 54    /* words of an entry */
 #define TIKUWERO_MAX_OUT (TIKUWERO_MAX_CANDIDATES * TIKUWERO_ENTRY_WORDS)
 #define TIKUWERO_MAX_FRAMES 64     /* frames of a list that is lent by itself */
 #define TIKUWERO_MAX_MASK 2048     /* bytes of a mask */
@@ -88,17 +88,20 @@ static inline const char *tikuwero_refusal_word(int32_t returned)
 #define TIKUWERO_LAST_FRAME 4095
 #define TIKUWERO_NONE UINT32_C(4294967295)
 
-/* Words of an entry. From TIKUWERO_ENTRY_UNITS on there are 16 triples start, end, row: row is that
- * of the scores of the unit's anchor (nuclei, then added anchors) or TIKUWERO_NONE. start..end is
- * that anchor's span, as tikuwero_tbu_spans has it for the anchors and boundaries of the stage; it
- * may be other than the frames that were scored as the unit. A unit without an anchor has its own
- * frames, cut where its neighbours' spans are. Triples past the number of units are 0. */
+/* Words of an entry. tikuwero_decode says what the sum is, and how the score comes from it. From
+ * TIKUWERO_ENTRY_UNITS on there are 16 triples start, end, row: row is that of the scores of the
+ * unit's anchor (nuclei, then added anchors) or TIKUWERO_NONE. start..end is that anchor's span, as
+ * tikuwero_tbu_spans has it for the anchors and boundaries of the stage; it may be other than the
+ * frames that were scored as the unit. A unit without an anchor has its own frames, cut where its
+ * neighbours' spans are. Triples past the number of units are 0. */
 enum {
     TIKUWERO_ENTRY_ID = 0,
     TIKUWERO_ENTRY_LLR = 1, /* the score: the bits of a float */
     TIKUWERO_ENTRY_PASS = 2,
-    TIKUWERO_ENTRY_COUNT = 3, /* the number of units */
-    TIKUWERO_ENTRY_UNITS = 4
+    TIKUWERO_ENTRY_COUNT = 3,    /* the number of units */
+    TIKUWERO_ENTRY_SUM_LOW = 4,  /* the full sum: bits 0 to 31 of a double */
+    TIKUWERO_ENTRY_SUM_HIGH = 5, /* and its bits 32 to 63, with the sign */
+    TIKUWERO_ENTRY_UNITS = 6
 };
 
 /* What TIKUWERO_ENTRY_PASS holds: the pass that found a path, or why there is none. */
@@ -129,9 +132,23 @@ static inline const char *tikuwero_pass_word(uint32_t pass)
 /* Decodes a phrase record of edition 1, as docs/FORMAT.md has it byte by byte.
  *
  * Returns M, the number of the record's candidates, 1 to 16. out then begins with M entries of
- * TIKUWERO_ENTRY_WORDS words, best score first (+0 before -0), those of equal score in the
- * record's order; its words past them are untouched. The first TIKUWERO_WORK_CELLS cells of best
- * and of back are all-zero bits, whatever they were; cells past them are untouched.
+ * TIKUWERO_ENTRY_WORDS words; its words past them are untouched. The first TIKUWERO_WORK_CELLS
+ * cells of best and of back are all-zero bits, whatever they were; cells past them are untouched.
+ *
+ * The sum of an entry is a double. With a path (passes 0 to 3) it is the sum of the whole path, as
+ * docs/FORMAT.md has it. Without one (4 and 5) it is the number of units times the unvoiced score,
+ * that product rounded to a float and then widened: with 0.1f, 3 units have 0x3fd3333340000000. It
+ * is finite, no limit cuts it, and a zero keeps its own sign. Its bits are in two words of the
+ * entry, the low half first:
+ *
+ *     uint64_t low = entry[TIKUWERO_ENTRY_SUM_LOW], high = entry[TIKUWERO_ENTRY_SUM_HIGH];
+ *     uint64_t bits = low | high << 32;
+ *     double sum;
+ *     memcpy(&sum, &bits, sizeof sum);
+ *
+ * The score (llr) is the sum, brought within -1,000,000 to 1,000,000 and then rounded to the nearest
+ * float, ties to even. Entries stand in the order of their scores alone, best first (+0 before -0):
+ * those with the same score bits keep the record's order, whatever their sums.
  *
  * Refuses with 1 to 11. 11: best_len or back_len is below TIKUWERO_WORK_CELLS, or out_len is below
  * M * TIKUWERO_ENTRY_WORDS; TIKUWERO_MAX_OUT words are enough for every record. */

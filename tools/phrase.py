@@ -1,13 +1,14 @@
 #!/usr/bin/env python3
-"""Makes phrase records from plain text, shows a record as such text, and says which refusal a record gets.
+"""Makes phrase records from plain text, shows a record as such text, says which refusal a record gets, and shows result words.
 
     phrase.py make [--refused] < text > record    --refused: also a record that the decoder refuses
     phrase.py show < record > text                text that makes the same bytes again, with --refused where the record is refused
     phrase.py check < record                      'accepted', or the refusal and the first place that earns it
+    phrase.py entries < words > text              the entries of an accepted record, from the words that decoding wrote
 
-docs/FORMAT.md has the items of the text, and the refusals. What cannot be made or shown is said in one sentence on standard error,
-with the number of the line that it lies in; nothing is written then, and the exit status is 1. It is 1 also where `check` finds a
-refusal, and 2 where the program is called in another way.
+docs/FORMAT.md has the items of the text, the refusals and the result words. What cannot be made or shown is said in one sentence on
+standard error, with the number of the line or entry that it lies in; nothing is written then, and the exit status is 1. It is 1 also
+where `check` finds a refusal, and 2 where the program is called in another way.
 """
 import math
 import re
@@ -38,6 +39,11 @@ SHORTEST_UNIT, LONGEST_UNIT = 6, 80
 ENTRIES = LONGEST_UNIT - SHORTEST_UNIT + 1
 SCORE_RANGE, ENTRY_RANGE = (-1e6, 1e6), (-1e6, 0)
 COSTS = struct.Struct(f"<QQIII{ENTRIES}Q{ENTRIES}Q")
+
+# An entry of the result: six words, and three for each unit that it has room for.
+HEAD_WORDS, UNIT_WORDS, NO_ROW = 6, 3, WORD
+PASSES = ("nuclei-strict", "count-strict", "count-relaxed", "nuclei-relaxed", "none", "unvoiced")
+SCORE_LIMIT = 1e6
 
 WORDS = ("", "stub", "edition", "size", "reach", "track", "cost", "bare", "twice", "units", "column")
 FORMS = {
@@ -570,6 +576,45 @@ def place_lines(record):
     return lines
 
 
+# ---- from result words to text
+
+
+def entries(data):
+    size = HEAD_WORDS + UNIT_WORDS * EDITIONS[1]["units"]
+    if len(data) % (4 * size):
+        raise Slip(f"{len(data)} bytes are not entries of {size} words")
+    lines = []
+    for number, entry in enumerate(struct.iter_unpack(f"<{size}I", data)):
+        try:
+            lines += entry_lines(entry)
+        except Slip as slip:
+            raise Slip(f"entry {number}: {slip}") from None
+    return "".join(f"{line}\n" for line in lines)
+
+
+def entry_lines(entry):
+    ident, score, kind, count, low, high = entry[:HEAD_WORDS]
+    bits, units = low | high << 32, list(zip(*[iter(entry[HEAD_WORDS:])] * UNIT_WORDS))
+    if kind >= len(PASSES):
+        raise Slip(f"there is no pass {kind}")
+    if not 1 <= count <= len(units):
+        raise Slip(f"it has {count} units, and has to have 1 to {len(units)}")
+    if any(map(any, units[count:])):
+        raise Slip("the words past its units are not all 0")
+    if not math.isfinite(value_of(bits, 8)) or score != score_of(bits):
+        raise Slip(f"the score {figure_text(score, 4)} is not that of the sum {figure_text(bits, 8)}")
+    yield f"candidate {ident} {PASSES[kind]}"
+    yield f"score {figure_text(score, 4)}"
+    yield f"sum {figure_text(bits, 8)}"
+    for start, end, row in units[:count]:
+        yield f"unit {start} {end} {'-' if row == NO_ROW else row}"
+
+
+def score_of(bits):
+    """The bits of the score, an f32, by those of the sum: within the limits, then to the nearest."""
+    return bits_of(min(max(value_of(bits, 8), -SCORE_LIMIT), SCORE_LIMIT), 4)
+
+
 # ---- the program
 
 
@@ -585,6 +630,8 @@ def main(words):
                 found = check(sys.stdin.buffer.read())
                 print(f"refused {found.number} {WORDS[found.number]}: {found.sentence()}" if found else "accepted")
                 return 1 if found else 0
+            case ["entries"]:
+                sys.stdout.write(entries(sys.stdin.buffer.read()))
             case _:
                 print(__doc__, end="", file=sys.stderr)
                 return 2

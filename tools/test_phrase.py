@@ -1,5 +1,6 @@
 #!/usr/bin/env python3
-"""Tests of phrase.py: what `make` refuses and with which line, that `show` gives text for the same bytes, and what `check` says."""
+"""Tests of phrase.py: what `make` refuses and with which line, that `show` gives text for the same bytes, what `check` says, and what
+`entries` shows of result words."""
 import random
 import re
 import struct
@@ -9,7 +10,7 @@ import unittest
 from pathlib import Path
 
 sys.dont_write_bytecode = True
-from phrase import COSTS, FORMS, LISTS, TRAILER, Slip, check, figure, figure_text, make, show
+from phrase import COSTS, FORMS, LISTS, TRAILER, Slip, check, entries, figure, figure_text, make, show
 
 TOP = Path(__file__).resolve().parent.parent
 SAMPLE = (TOP / "crates/listing/stdin").read_bytes()
@@ -300,6 +301,55 @@ class Showing(unittest.TestCase):
         lines = [line for line in show(make(TWO_STAGES)).split("\n") if "duration" in line]
         wanted = ["6-9 -1", "10 -0.5", "11 -0", "12 -0.5", "13-80 -1"]
         self.assertEqual(lines, [f"duration {entry}" for entry in wanted] + ["added-duration 80 -1000000"])
+
+
+class Entries(unittest.TestCase):
+    NO_ROW = 2**32 - 1
+    # the two entries of the sample phrase, as docs/FORMAT.md has them
+    FOUND = (3, 0xC0100000, 0, 1, 0, 0xC0020000, 4, 14, 0)
+    MISSED = (9, 0xC1000000, 4, 2, 0, 0xC0200000, 4, 4, NO_ROW, 4, 4, NO_ROW)
+
+    def words(self, *given):
+        return b"".join(struct.pack("<54I", *entry, *[0] * (54 - len(entry))) for entry in given)
+
+    def head(self, score, low, high):
+        return entries(self.words((1, score, 0, 1, low, high, 0, 6, 0))).split("\n")[1:3]
+
+    def test_sample(self):
+        text = "candidate 3 nuclei-strict\nscore -2.25\nsum -2.25\nunit 4 14 0\n"
+        text += "candidate 9 none\nscore -8\nsum -8\nunit 4 4 -\nunit 4 4 -\n"
+        self.assertEqual(entries(self.words(self.FOUND, self.MISSED)), text)
+        self.assertEqual(run(["entries"], self.words(self.FOUND, self.MISSED)), (0, text.encode(), ""))
+        self.assertEqual(entries(b""), "")
+
+    def test_sums(self):
+        # beyond the limit on either side, a product of f32, zeros with their sign, and a sum too small for an f32
+        self.assertEqual(self.head(0x49742400, 0x20000000, 0x4136E360), ["score 1e+06", "sum 1500000.125"])
+        self.assertEqual(self.head(0xC9742400, 0, 0xC13E8480), ["score -1e+06", "sum -2000000"])
+        self.assertEqual(self.head(0x3E99999A, 0x40000000, 0x3FD33333), ["score 0.3", "sum 0.30000001192092896"])
+        self.assertEqual(self.head(0, 0, 0), ["score 0", "sum 0"])
+        self.assertEqual(self.head(0x80000000, 0, 0x80000000), ["score -0", "sum -0"])
+        self.assertEqual(self.head(0x80000000, 1, 0x80000000), ["score -0", "sum -5e-324"])
+
+    def test_no_entries(self):
+        entry = self.FOUND
+        for at, word, said in [
+            (1, 0xC0100001, "the score -2.25.* is not that of the sum -2.25"),
+            (1, 0, "the score 0 is not that of the sum -2.25"),
+            (4, 0xC0020000, "the score -2.25 is not that of the sum"),
+            (5, 0x7FF80000, "the score -2.25 is not that of the sum nan"),
+            (5, 0xFFF00000, "the score -2.25 is not that of the sum -inf"),
+            (2, 6, "there is no pass 6"),
+            (3, 0, "it has 0 units"),
+            (3, 17, "it has 17 units"),
+        ]:
+            with self.assertRaisesRegex(Slip, f"^entry 1: {said}"):
+                entries(self.words(entry, (*entry[:at], word, *entry[at + 1 :])))
+        with self.assertRaisesRegex(Slip, "past its units"):
+            entries(self.words((*entry, 0, 0, 1)))
+        with self.assertRaisesRegex(Slip, "^212 bytes are not entries of 54 words$"):
+            entries(self.words(entry)[4:])
+        self.assertEqual(run(["entries"], b"1")[:2], (1, b""))
 
 
 class Calling(unittest.TestCase):
