@@ -13,12 +13,24 @@ fn main() {
         .unwrap_or_else(|_| here.join("../../shared/docs/src"));
     let crates = fs::canonicalize(src.join("crates"))
         .unwrap_or_else(|e| panic!("no original in {}: {e}; set TONALKIT_SRC", src.display()));
+    let parts = items(
+        &file(crates.join("tonekit-decode/src/evidence.rs")),
+        &[
+            "const MIN_TAIL_FRAMES",
+            "fn creaky_tail",
+            "fn joins",
+            "fn tbu_spans",
+        ],
+    );
+    let out = PathBuf::from(env::var("OUT_DIR").unwrap());
+    fs::write(out.join("original.rs"), modules(&crates)).unwrap();
+    fs::write(out.join("parts.rs"), parts).unwrap();
+    link(&here);
+}
+
+/// The original's files as modules.
+fn modules(crates: &Path) -> String {
     let decode = crates.join("tonekit-decode/src");
-    let file = |p: PathBuf| {
-        assert!(p.is_file(), "{} is missing", p.display());
-        println!("cargo:rerun-if-changed={}", p.display());
-        p.display().to_string()
-    };
     let mut modules = String::new();
     for (name, path) in [
         ("closed", decode.join("closed.rs")),
@@ -32,32 +44,21 @@ fn main() {
         );
     }
     // lib.rs is a crate's root and brings modules that are not wanted here, so the items wanted are taken from its text.
-    modules += &items(
-        file(decode.join("lib.rs")),
-        &[
-            "const LOG_CLAMP",
-            "pub(crate) fn clamp_log",
-            "pub(crate) fn count_u32",
-        ],
-    );
-    let parts = items(
-        file(decode.join("evidence.rs")),
-        &[
-            "const MIN_TAIL_FRAMES",
-            "fn creaky_tail",
-            "fn joins",
-            "fn tbu_spans",
-        ],
-    );
-    let out = PathBuf::from(env::var("OUT_DIR").unwrap());
-    fs::write(out.join("original.rs"), modules).unwrap();
-    fs::write(out.join("parts.rs"), parts).unwrap();
-    link(&here);
+    let lib = file(decode.join("lib.rs"));
+    let clamp = items(&lib, &["const LOG_CLAMP", "pub(crate) fn clamp_log"]);
+    modules += &format!("mod clamp_original {{\n{clamp}}}\n");
+    modules + &items(&lib, &["pub(crate) fn count_u32"])
+}
+
+fn file(p: PathBuf) -> String {
+    assert!(p.is_file(), "{} is missing", p.display());
+    println!("cargo:rerun-if-changed={}", p.display());
+    p.display().to_string()
 }
 
 /// The text of items of a file, each from its first words to its end.
-fn items(path: String, starts: &[&str]) -> String {
-    let text = fs::read_to_string(&path).unwrap();
+fn items(path: &str, starts: &[&str]) -> String {
+    let text = fs::read_to_string(path).unwrap();
     let item = |start: &&str| {
         let at = text
             .find(&format!("\n{start}"))

@@ -1,12 +1,13 @@
 //! The two sides on one record, each as its caller has it: ours is lent the record's bytes and memory, the original is
 //! given what its `decode` has before it makes the decoder.
 
+use oracle::entry::{entries, ENTRY_WORDS};
 use oracle::maker::encode;
-use oracle::ours::{decode, ENTRY_WORDS, WORK_CELLS};
+use oracle::ours::{decode, WORK_CELLS};
 use oracle::parts::original_spans;
 use oracle::phrase::Phrase;
-use oracle::reference::{self, Given, Inputs};
-use oracle::{CandidateScore, TbuSpan};
+use oracle::reference::{self, Given, Inputs, Scored};
+use oracle::TbuSpan;
 
 pub struct Ours {
     record: Vec<u8>,
@@ -69,7 +70,7 @@ impl Original {
 
     /// One decode, of what is already checked: the rows' spans are worked out, every candidate is decoded and ranked. The
     /// marks that the original takes with the spans are left out, since ours takes them in entries of their own.
-    pub fn run(&self) -> (Vec<Vec<TbuSpan>>, Vec<CandidateScore>) {
+    pub fn run(&self) -> (Vec<Vec<TbuSpan>>, Vec<Scored>) {
         let spans = self.stages.iter().map(Stage::spans).collect();
         (spans, self.inputs.scores())
     }
@@ -86,17 +87,14 @@ pub fn agreed_passes(name: &str, p: &Phrase) -> Vec<u32> {
         reference::decode(p, Given::AsListed),
         "{name}: the two sides differ"
     );
-    let llrs: Vec<u32> = Original::of(p)
-        .run()
-        .1
+    let timed = Original::of(p).run().1;
+    let timed = timed
         .iter()
-        .map(|s| s.llr.to_bits())
-        .collect();
-    let entries = words.chunks(ENTRY_WORDS);
-    assert_eq!(
-        entries.clone().map(|e| e[1]).collect::<Vec<_>>(),
-        llrs,
+        .map(|s| (s.score.llr.to_bits(), s.sum.to_bits()));
+    let compared = entries(words).map(|e| (e.llr.to_bits(), e.sum.to_bits()));
+    assert!(
+        timed.eq(compared),
         "{name}: what is timed is not what was compared"
     );
-    entries.map(|e| e[2]).collect()
+    entries(words).map(|e| e.pass).collect()
 }

@@ -1,5 +1,6 @@
 //! Demand 3 checked by writing out every admitted path of a small phrase, straight from document 01: no table, no search.
 
+use crate::entry::Entry;
 use crate::phrase::Phrase;
 
 struct Stage<'a> {
@@ -91,9 +92,27 @@ fn walk(
     }
 }
 
-/// The pass that demand 3 asks for and the largest sum of its paths; 4 or 5 and no sum where there is none.
-pub fn answer(p: &Phrase, columns: &[u8]) -> (u32, Option<f64>) {
-    for (number, stage, strict) in passes(p) {
+/// What demand 3 asks for: the first pass that admits a path, and the largest sum of its paths; 4 or 5 where none does, and the product.
+#[derive(Debug)]
+pub struct Wanted {
+    pub pass: u32,
+    pub sum: f64,
+    pub path: bool,
+}
+
+impl Wanted {
+    /// The sum of a path as a number: which zero stands is the cell rule's to say. The llr follows from the entry's own sum.
+    pub fn met_by(&self, entry: &Entry) -> bool {
+        let same_bits = entry.sum.to_bits() == self.sum.to_bits();
+        let llr = entry.sum.clamp(-1.0e6, 1.0e6) as f32;
+        entry.pass == self.pass
+            && (same_bits || self.path && entry.sum == self.sum)
+            && entry.llr.to_bits() == llr.to_bits()
+    }
+}
+
+pub fn answer(p: &Phrase, columns: &[u8]) -> Wanted {
+    for (pass, stage, strict) in passes(p) {
         let mut found = Vec::new();
         for start in 0..stage.bounds.len() {
             let value = -cost(p, 0, stage.bounds[start]);
@@ -108,10 +127,18 @@ pub fn answer(p: &Phrase, columns: &[u8]) -> (u32, Option<f64>) {
                 &mut found,
             );
         }
-        if let Some(best) = found.iter().map(|(s, _)| *s).reduce(f64::max) {
-            return (number, Some(best));
+        if let Some(sum) = found.iter().map(|(s, _)| *s).reduce(f64::max) {
+            return Wanted {
+                pass,
+                sum,
+                path: true,
+            };
         }
     }
     let nucleus = p.nuclei.iter().any(|&f| p.within_mask(f));
-    (if nucleus { 4 } else { 5 }, None)
+    Wanted {
+        pass: if nucleus { 4 } else { 5 },
+        sum: p.unvoiced_sum(columns.len()),
+        path: false,
+    }
 }

@@ -1,6 +1,6 @@
 //! Phrases of every kind that document 01 accepts: tiny to maximal, ties likely, both zeros, subnormals, negative
 //! figures, frames past the mask, nuclei on boundaries, no speech, with and without an added stage, sums beyond the clamp. And
-//! phrases in which many units fit.
+//! phrases in which many units fit, and phrases whose sums their llr does not tell apart.
 
 use crate::phrase::Phrase;
 use crate::random::Random;
@@ -232,6 +232,103 @@ pub fn many_units(r: &mut Random) -> Phrase {
         unvoiced: 0.0,
         speech: (!r.once_in(4)).then_some((0, 1)),
         durations: [[0.0; 75]; 2],
+    }
+}
+
+/// What the sums of a phrase are made of.
+struct Figures {
+    scores: &'static [f32],
+    durations: &'static [f64],
+    per_frame: &'static [f64],
+}
+
+/// Half of the least f32 above 0: the largest number that narrows to 0.
+pub const HALF_LEAST: f64 = f64::from_bits(0x3690 << 48);
+
+/// Sums above the clamp and below it, sums that are one f32, sums that narrow to a zero, and zeros. A sum is −0 only where all that is
+/// added is.
+const ALIKE: [Figures; 5] = [
+    Figures {
+        scores: &[1.0e6, 999_999.0, 600_000.0],
+        durations: &[0.0, -1.0],
+        per_frame: &[-1000.0, -1.0, 0.0],
+    },
+    Figures {
+        scores: &[-1.0e6, -999_999.0, -600_000.0],
+        durations: &[0.0, -1.0, -1.0e6],
+        per_frame: &[1000.0, 1.0, 0.0],
+    },
+    Figures {
+        scores: &[0.0, 1.0e-9, -1.0e-9, 1.0e-12],
+        durations: &[-1.0],
+        per_frame: &[0.0, 1.0e-12],
+    },
+    Figures {
+        scores: &[0.0, -0.0],
+        durations: &[-HALF_LEAST, -1.0e-60, -f64::MIN_POSITIVE, -0.0],
+        per_frame: &[0.0, 1.0e-310, -1.0e-60],
+    },
+    Figures {
+        scores: &[-0.0, -0.0, -0.0, 0.0],
+        durations: &[-0.0, -0.0, -0.0, 0.0],
+        per_frame: &[0.0, -0.0],
+    },
+];
+
+/// A few boundaries 10 frames apart, and a frame in most of the stretches between them.
+fn even_stage(r: &mut Random) -> (Vec<u32>, Vec<u32>) {
+    let first = r.below(9) as u32;
+    let stretches = r.between(1, 3) as u32;
+    let bounds: Vec<u32> = (0..=stretches).map(|i| first + 10 * i).collect();
+    let stretches = bounds[1..].iter().filter(|_| !r.once_in(4));
+    let anchors: Vec<u32> = stretches.map(|to| to - 5).collect();
+    (bounds, anchors)
+}
+
+/// One unit mostly, and up to more than have a path.
+fn few_units(r: &mut Random, columns: usize) -> Vec<u8> {
+    let k = r.pick(&[1, 1, 1, 2, 2, 3, 7]);
+    (0..k).map(|_| r.below(columns) as u8).collect()
+}
+
+/// Durations of the units that fit between boundaries of an even stage; those of all others are 0.
+fn even_durations(r: &mut Random, from: &[f64]) -> [f64; 75] {
+    let mut table = [0.0; 75];
+    for frames in [10, 20, 30] {
+        table[frames - 6] = r.pick(from);
+    }
+    table
+}
+
+/// A phrase whose candidates have sums that differ where llr does not, or that llr does not show.
+pub fn alike(r: &mut Random) -> Phrase {
+    let figures = &ALIKE[r.below(ALIKE.len())];
+    let (boundaries, nuclei) = even_stage(r);
+    let (mut added, mut anchors) = even_stage(r);
+    if anchors.is_empty() || r.once_in(2) {
+        (added, anchors) = (Vec::new(), Vec::new());
+    }
+    let columns = 3;
+    let scores = (0..nuclei.len() + anchors.len())
+        .map(|_| (0..columns).map(|_| r.pick(figures.scores)).collect())
+        .collect();
+    let candidates = (1..=r.between(2, 6) as u32)
+        .map(|id| (id, few_units(r, columns)))
+        .collect();
+    Phrase {
+        mask: vec![true; r.pick(&[12, 40])],
+        nuclei,
+        boundaries,
+        anchors,
+        added,
+        columns,
+        scores,
+        candidates,
+        per_frame: r.pick(figures.per_frame),
+        insertion_llr: r.pick(&[0.0, -0.0]),
+        unvoiced: r.pick(&[0.0, -0.0, 0.1, -0.3, 400_000.0, -1.0e6, 1.0e-45]),
+        speech: (!r.once_in(12)).then_some((0, 12)),
+        durations: [(); 2].map(|()| even_durations(r, figures.durations)),
     }
 }
 

@@ -10,6 +10,7 @@ pub mod arguments;
 pub mod brute;
 pub mod calls;
 pub mod damage;
+pub mod entry;
 pub mod every;
 pub mod generate;
 pub mod listing;

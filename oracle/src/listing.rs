@@ -1,4 +1,6 @@
-//! The listing of document 01's "Sample phrase", from result words.
+//! The listing of document 01's "Sample phrase", from result words. The unclamped sum is not in it.
+
+use crate::entry::{entries, ENTRY_WORDS};
 
 const PASSES: [&str; 6] = [
     "nuclei-strict",
@@ -10,17 +12,21 @@ const PASSES: [&str; 6] = [
 ];
 
 pub fn listing(words: &[u32]) -> String {
-    let mut text = format!("decoded {}\n", words.len() / 52);
-    for entry in words.chunks(52) {
-        let [id, llr, pass, k] = [entry[0], entry[1], entry[2], entry[3]];
-        text += &format!("candidate {id} {llr:08x} {} {k}\n", PASSES[pass as usize]);
-        for unit in entry[4..].chunks(3).take(k as usize) {
-            let row = if unit[2] == u32::MAX {
+    let mut text = format!("decoded {}\n", words.len() / ENTRY_WORDS);
+    for entry in entries(words) {
+        let (llr, pass) = (entry.llr.to_bits(), PASSES[entry.pass as usize]);
+        text += &format!(
+            "candidate {} {llr:08x} {pass} {}\n",
+            entry.id,
+            entry.units.len()
+        );
+        for [start, end, row] in entry.units {
+            let row = if row == u32::MAX {
                 "-".into()
             } else {
-                unit[2].to_string()
+                row.to_string()
             };
-            text += &format!("{} {} {row}\n", unit[0], unit[1]);
+            text += &format!("{start} {end} {row}\n");
         }
     }
     text

@@ -2,7 +2,7 @@
 //! longest paths over counts, for small stages once more by all paths written out, and once by the unit counts for which the
 //! original finds a path.
 
-use crate::ours::ENTRY_WORDS;
+use crate::entry::entries;
 use crate::phrase::Phrase;
 use crate::random::Random;
 use crate::reference::{decode, Given};
@@ -118,13 +118,11 @@ fn largest(counts: &BTreeSet<u32>) -> Result<Most, String> {
 /// candidates without units; a path of none is there where there are boundaries.
 pub fn by_original(p: &Phrase, stage: u32, strict: u32) -> Result<Most, String> {
     let stage = Stage::of(p, stage, strict);
-    let entries = decode(&beside_a_nucleus(p, &stage), Given::WithinMask);
+    let words = decode(&beside_a_nucleus(p, &stage), Given::WithinMask);
     // a path that is found strict, in pass 1, is a relaxed one too
     let passes = if stage.strict { 1..=1 } else { 1..=2 };
-    let found = entries
-        .chunks(ENTRY_WORDS)
-        .filter(|e| passes.contains(&e[2]));
-    let mut counts: BTreeSet<u32> = found.map(|e| e[3]).collect();
+    let found = entries(&words).filter(|e| passes.contains(&e.pass));
+    let mut counts: BTreeSet<u32> = found.map(|e| e.units.len() as u32).collect();
     if !stage.bounds.is_empty() {
         counts.insert(0);
     }

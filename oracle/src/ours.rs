@@ -1,10 +1,10 @@
 //! Our side, through the C interface: every lent buffer stands between red zones, so that a write outside would be seen.
 
+use crate::entry::ENTRY_WORDS;
 use crate::most_units::{Answer, Most, CAP};
 
-/// What the two work areas and the output have at least.
+/// What the two work areas have at least.
 pub const WORK_CELLS: usize = 1088;
-pub const ENTRY_WORDS: usize = 52;
 
 /// Cells on either side of a lent buffer, and beyond the part that a call may write.
 const ZONE: usize = 16;

@@ -90,4 +90,9 @@ impl Phrase {
     pub fn within_mask(&self, frame: u32) -> bool {
         self.mask.get(frame as usize) == Some(&true)
     }
+
+    /// The sum of so many units without a path: the product in f32, widened.
+    pub fn unvoiced_sum(&self, units: usize) -> f64 {
+        f64::from(units as f32 * self.unvoiced)
+    }
 }

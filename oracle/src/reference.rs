@@ -1,6 +1,7 @@
 //! The original's answer for a phrase: the ranking of its `decode` over `Decoder::score`, as result words.
 
 use crate::closed::{best_path, Decoder, Filler, Pass};
+use crate::entry::Entry;
 use crate::evidence::{tbus, Extended, Tbu};
 use crate::phrase::Phrase;
 use crate::*;
@@ -30,74 +31,96 @@ fn analysis(p: &Phrase, nuclei: &[u32], boundaries: &[u32]) -> Analysis {
     }
 }
 
-/// A stage as the original is given it: the frames of its anchors, their evidence and their rows in the record.
-struct Side {
+/// A stage as the original is given it: the frames of its anchors, their evidence and their rows in the record, its boundaries and
+/// durations.
+struct Side<'a> {
     frames: Vec<u32>,
     tbus: Vec<Tbu>,
     rows: Vec<u32>,
+    bounds: &'a [u32],
+    durations: &'a [f64; 75],
 }
 
-fn side(p: &Phrase, frames: &[u32], boundaries: &[u32], first_row: usize, given: Given) -> Side {
-    let spans = tbus(&analysis(p, frames, boundaries));
+fn nuclei_side(p: &Phrase, given: Given) -> Side<'_> {
+    side(p, given, &p.nuclei, 0, &p.boundaries, &p.durations[0])
+}
+
+fn added_side(p: &Phrase, given: Given) -> Option<Side<'_>> {
+    let first_row = p.nuclei.len();
+    let side = || side(p, given, &p.anchors, first_row, &p.added, &p.durations[1]);
+    (!p.anchors.is_empty()).then(side)
+}
+
+fn side<'a>(
+    p: &Phrase,
+    given: Given,
+    frames: &[u32],
+    first_row: usize,
+    bounds: &'a [u32],
+    durations: &'a [f64; 75],
+) -> Side<'a> {
+    let spans = tbus(&analysis(p, frames, bounds));
     let taken = |i: &usize| given == Given::AsListed || p.within_mask(frames[*i]);
     let places: Vec<usize> = (0..frames.len()).filter(taken).collect();
     Side {
         frames: places.iter().map(|&i| frames[i]).collect(),
         tbus: places.iter().map(|&i| spans[i].clone()).collect(),
         rows: places.iter().map(|&i| (first_row + i) as u32).collect(),
+        bounds,
+        durations,
     }
 }
 
-/// The number of the first pass in which the original's `best_path` finds a path, in the order of its `search`; 4 or 5
-/// where there is none.
-fn pass_number(
-    p: &Phrase,
-    nuclei: &Side,
-    added: Option<&Side>,
-    columns: &[u8],
-) -> (u32, Option<f64>) {
-    let filler = |anchors: &[u32]| {
-        Filler::with_anchors(
-            &p.mask,
-            anchors,
-            &nuclei.frames,
-            p.per_frame,
-            p.insertion_llr,
-        )
-    };
-    let first = filler(&nuclei.frames);
+/// The original's counts and costs, with the anchors of a stage.
+fn filler(p: &Phrase, side: &Side, nuclei: &Side) -> Filler {
+    Filler::with_anchors(
+        &p.mask,
+        &side.frames,
+        &nuclei.frames,
+        p.per_frame,
+        p.insertion_llr,
+    )
+}
+
+/// The `path.score` of what the original's `best_path` finds in a stage, if anything.
+fn path_score(p: &Phrase, side: &Side, filler: &Filler, pass: Pass, columns: &[u8]) -> Option<f64> {
+    let path = best_path::<()>(side.bounds, filler, columns.len(), pass, |i, j, s| {
+        let (from, to) = (side.bounds[i], side.bounds[j]);
+        let score = match filler.nucleus_in(from, to) {
+            Some(n) => p.scores[side.rows[n] as usize][usize::from(columns[s])],
+            None => p.unvoiced,
+        };
+        Ok(f64::from(score) + side.durations[(to - from) as usize - 6])
+    });
+    path.unwrap().map(|path| path.score)
+}
+
+/// The number of the first pass in which there is a path, in the order of the original's `search`, and its sum; 4 or 5 where there is
+/// none, and the product.
+fn pass_and_sum(p: &Phrase, nuclei: &Side, added: Option<&Side>, columns: &[u8]) -> (u32, f64) {
+    let product = p.unvoiced_sum(columns.len());
+    let first = filler(p, nuclei, nuclei);
     if first.nuclei(0, first.frames()) == 0 {
-        return (5, None);
+        return (5, product);
     }
     if p.speech.is_none() {
-        return (4, None);
+        return (4, product);
     }
-    let order = match added {
-        Some(a) => vec![
-            (0, nuclei, &p.boundaries, 0, Pass::Strict),
-            (1, a, &p.added, 1, Pass::Strict),
-            (2, a, &p.added, 1, Pass::Relaxed),
+    let passes = match added {
+        Some(added) => vec![
+            (0, nuclei, Pass::Strict),
+            (1, added, Pass::Strict),
+            (2, added, Pass::Relaxed),
         ],
-        None => vec![
-            (0, nuclei, &p.boundaries, 0, Pass::Strict),
-            (3, nuclei, &p.boundaries, 0, Pass::Relaxed),
-        ],
+        None => vec![(0, nuclei, Pass::Strict), (3, nuclei, Pass::Relaxed)],
     };
-    for (number, side, bounds, table, pass) in order {
-        let filler = filler(&side.frames);
-        let path = best_path::<()>(bounds, &filler, columns.len(), pass, |i, j, s| {
-            let (from, to) = (bounds[i], bounds[j]);
-            let score = match filler.nucleus_in(from, to) {
-                Some(n) => p.scores[side.rows[n] as usize][usize::from(columns[s])],
-                None => p.unvoiced,
-            };
-            Ok(f64::from(score) + p.durations[table][(to - from) as usize - 6])
-        });
-        if let Some(path) = path.unwrap() {
-            return (number, Some(path.score));
+    for (number, side, pass) in passes {
+        let filler = filler(p, side, nuclei);
+        if let Some(sum) = path_score(p, side, &filler, pass, columns) {
+            return (number, sum);
         }
     }
-    (4, None)
+    (4, product)
 }
 
 /// What the original's decoder is given for a phrase: all that its `decode` has before it makes the decoder.
@@ -112,8 +135,7 @@ pub struct Inputs {
 
 impl Inputs {
     pub fn of(p: &Phrase, given: Given) -> Inputs {
-        let nuclei = side(p, &p.nuclei, &p.boundaries, 0, given);
-        let added = added_side(p, given);
+        let (nuclei, added) = (nuclei_side(p, given), added_side(p, given));
         Inputs::from_sides(p, &nuclei, added.as_ref())
     }
 
@@ -165,7 +187,7 @@ impl Inputs {
 
     /// Every candidate planned, scored and ranked, as the original's `decode` does from where it makes the decoder: all
     /// plans before the first score, then a stable order, highest first.
-    pub fn scores(&self) -> Vec<CandidateScore> {
+    pub fn scores(&self) -> Vec<Scored> {
         begin_decoder();
         let extended = self.extended.as_ref();
         let mut decoder = Decoder::new(
@@ -180,60 +202,56 @@ impl Inputs {
             .iter()
             .map(|c| decoder.plan(c).unwrap())
             .collect();
-        let mut scores: Vec<CandidateScore> = self
+        let mut scores: Vec<Scored> = self
             .candidates
             .iter()
             .zip(&plans)
-            .map(|(c, keys)| decoder.score(c, keys).unwrap())
+            .map(|(c, keys)| Scored {
+                score: decoder.score(c, keys).unwrap(),
+                sum: unclamped(),
+            })
             .collect();
-        scores.sort_by(|x, y| y.llr.total_cmp(&x.llr));
+        scores.sort_by(|x, y| y.score.llr.total_cmp(&x.score.llr));
         scores
     }
 }
 
-fn added_side(p: &Phrase, given: Given) -> Option<Side> {
-    (!p.anchors.is_empty()).then(|| side(p, &p.anchors, &p.added, p.nuclei.len(), given))
+/// What the original says of a candidate, and the sum that it clamps for it.
+pub struct Scored {
+    pub score: CandidateScore,
+    pub sum: f64,
 }
 
 /// The result words of every candidate, ranked.
 pub fn decode(p: &Phrase, given: Given) -> Vec<u32> {
-    let nuclei = side(p, &p.nuclei, &p.boundaries, 0, given);
-    let added = added_side(p, given);
+    let (nuclei, added) = (nuclei_side(p, given), added_side(p, given));
     let inputs = Inputs::from_sides(p, &nuclei, added.as_ref());
     inputs.lend_durations();
-    inputs
-        .scores()
-        .iter()
-        .flat_map(|score| {
-            let (_, columns) = p
-                .candidates
-                .iter()
-                .find(|(id, _)| *id == score.id.0)
-                .unwrap();
-            let (pass, sum) = pass_number(p, &nuclei, added.as_ref(), columns);
-            if let Some(sum) = sum {
-                assert_eq!(
-                    clamp_log(sum).to_bits(),
-                    score.llr.to_bits(),
-                    "the original disagrees with itself"
-                );
-            }
-            words(score, pass)
-        })
-        .collect()
+    let entry = |scored: &Scored| {
+        let with_id = |c: &&(u32, Vec<u8>)| c.0 == scored.score.id.0;
+        let (_, columns) = p.candidates.iter().find(with_id).unwrap();
+        let (pass, sum) = pass_and_sum(p, &nuclei, added.as_ref(), columns);
+        let bits = |sum: f64, llr: f32| (sum.to_bits(), llr.to_bits());
+        assert_eq!(
+            bits(sum, clamp_log(sum)),
+            bits(scored.sum, scored.score.llr),
+            "the original disagrees with itself"
+        );
+        entry(scored, pass).words()
+    };
+    inputs.scores().iter().flat_map(entry).collect()
 }
 
-fn words(score: &CandidateScore, pass: u32) -> [u32; 52] {
-    let mut w = [0; 52];
-    w[..4].copy_from_slice(&[
-        score.id.0,
-        score.llr.to_bits(),
-        pass,
-        score.syllables.len() as u32,
-    ]);
-    for (s, fit) in score.syllables.iter().enumerate() {
+fn entry(Scored { score, sum }: &Scored, pass: u32) -> Entry {
+    let unit = |fit: &SyllableFit| {
         let row = fit.judgement.row.unwrap_or(NO_ROW);
-        w[4 + 3 * s..7 + 3 * s].copy_from_slice(&[fit.span.start_frame, fit.span.end_frame, row]);
+        [fit.span.start_frame, fit.span.end_frame, row]
+    };
+    Entry {
+        id: score.id.0,
+        llr: score.llr,
+        pass,
+        sum: *sum,
+        units: score.syllables.iter().map(unit).collect(),
     }
-    w
 }

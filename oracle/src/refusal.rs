@@ -1,4 +1,5 @@
-//! Document 01's table "What the decoder says no with", written from its text: the number of the refusal, if any.
+//! Document 01's table "What the decoder says no with", written from its text: the number of the refusal, if any. How many words 11 asks
+//! of the output is document 02's, Ask 2.
 
 fn u32_at(record: &[u8], at: usize) -> u32 {
     u32::from_le_bytes(record[at..at + 4].try_into().unwrap())
@@ -112,5 +113,5 @@ pub fn refusal(record: &[u8], best: usize, back: usize, out: usize) -> Option<i3
             return Some(10);
         }
     }
-    (best < 1088 || back < 1088 || out < 52 * m).then_some(11)
+    (best < 1088 || back < 1088 || out < 54 * m).then_some(11)
 }

@@ -6,8 +6,9 @@
 //! pieces, so that a damaged copy takes a few bytes, and a second call on a record none.
 
 use crate::calls::{Answer, Call};
+use crate::entry::ENTRY_WORDS;
 use crate::most_units::{self, Most};
-use crate::ours::{Decoded, ENTRY_WORDS};
+use crate::ours::Decoded;
 
 /// The longest record of a case, and how many equal bytes part two pieces at least.
 const MOST: usize = 65_540;

@@ -4,7 +4,7 @@
 //! The original is timed over them (`bench/`), so they are cheaper than what they stand in for: `llr` is one checked read
 //! of a flat table, which the original finds in a map, and `log_prior` is told a duration in seconds, so that a
 //! multiplication, an addition and a conversion remain before its one checked read, where the original has a division and a
-//! logarithm. Speech frames are copied, where the original works them out.
+//! logarithm. Speech frames are copied, where the original works them out. Only `clamp_log` is dearer, by a store for each candidate.
 
 use std::cell::Cell;
 
@@ -194,6 +194,21 @@ thread_local! {
     static DURATIONS: [Cell<f64>; 150] = const { [const { Cell::new(0.0) }; 150] };
     /// How many stages of the decoder that is being made have asked for their rate.
     static STAGES: Cell<u32> = const { Cell::new(0) };
+}
+
+thread_local! {
+    static UNCLAMPED: Cell<f64> = const { Cell::new(0.0) };
+}
+
+/// In place of lib.rs's `clamp_log`, which it calls: all that the original shows of a candidate's sum is what comes back from there.
+pub(crate) fn clamp_log(v: f64) -> f32 {
+    UNCLAMPED.set(v);
+    crate::clamp_original::clamp_log(v)
+}
+
+/// What `clamp_log` was given last: by `Decoder::score` the `path.score` of its candidate, or the product where there is no path.
+pub(crate) fn unclamped() -> f64 {
+    UNCLAMPED.get()
 }
 
 /// Lends the duration tables to the decoders made from now on in this thread.

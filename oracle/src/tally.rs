@@ -1,7 +1,10 @@
 //! How many answers were compared and how many differ, and what records were answered with.
 
+use crate::entry::{entries, Entry};
 use crate::most_units::{Answer, Most, CAP};
-use crate::ours::{Decoded, ENTRY_WORDS};
+use crate::ours::Decoded;
+use crate::phrase::Phrase;
+use std::cmp::Ordering;
 use std::fmt::{self, Debug, Display};
 use std::process::exit;
 
@@ -29,20 +32,27 @@ impl Tally {
     }
 }
 
-/// How many records were refused, by the refusal's number, and how many entries those accepted have, by pass.
+/// How many records were refused, by the refusal's number, and of those accepted how many entries they have, by pass, and what
+/// sums.
 #[derive(Default)]
 pub struct Answers {
     refused: [usize; 12],
     passes: [usize; 6],
+    sums: Sums,
 }
 
 impl Answers {
-    pub fn count(&mut self, answer: &Decoded) {
+    pub fn count(&mut self, record: &[u8], answer: &Decoded) {
         match answer {
             Err(number) => self.refused[*number as usize] += 1,
             Ok(words) => {
-                let entries = words.chunks(ENTRY_WORDS);
-                entries.for_each(|e| self.passes[e[2] as usize] += 1);
+                let ranked: Vec<Entry> = entries(words).collect();
+                let unvoiced = Phrase::parse(record).unvoiced;
+                for e in &ranked {
+                    self.passes[e.pass as usize] += 1;
+                    self.sums.entry(e, unvoiced);
+                }
+                self.sums.ranking(&ranked);
             }
         }
     }
@@ -52,9 +62,70 @@ impl Display for Answers {
     fn fmt(&self, f: &mut fmt::Formatter) -> fmt::Result {
         write!(
             f,
-            "refused by 1 to 11: {:?}; entries by pass: {:?}",
+            "refused by 1 to 11: {:?}; entries by pass: {:?}; {}",
             &self.refused[1..],
-            self.passes
+            self.passes,
+            self.sums
+        )
+    }
+}
+
+/// How often a sum is one that its llr does not show.
+#[derive(Default)]
+struct Sums {
+    /// entries of each case, with a path and without
+    cases: [[usize; 2]; 6],
+    /// records in which different sums have equal llr bits, and those of them that rank a lower sum before a higher one
+    equal_llr: usize,
+    lower_first: usize,
+}
+
+const CASES: [&str; 6] = [
+    "above the clamp",
+    "below it",
+    "+0",
+    "-0",
+    "not 0 though the llr is",
+    "not the product in f64",
+];
+
+impl Sums {
+    fn entry(&mut self, e: &Entry, unvoiced: f32) {
+        let is = |x: f64| e.sum.to_bits() == x.to_bits();
+        let product = e.units.len() as f64 * f64::from(unvoiced);
+        let cases = [
+            e.sum > 1.0e6,
+            e.sum < -1.0e6,
+            is(0.0),
+            is(-0.0),
+            e.llr == 0.0 && e.sum != 0.0,
+            !e.has_path() && !is(product),
+        ];
+        for (counts, case) in self.cases.iter_mut().zip(cases) {
+            counts[usize::from(!e.has_path())] += usize::from(case);
+        }
+    }
+
+    /// Equal llr bits stand next to each other.
+    fn ranking(&mut self, ranked: &[Entry]) {
+        let equal = |e: &&[Entry]| e[0].llr.to_bits() == e[1].llr.to_bits();
+        let neighbours = ranked.windows(2).filter(equal);
+        let orders: Vec<Ordering> = neighbours.map(|e| e[0].sum.total_cmp(&e[1].sum)).collect();
+        self.equal_llr += usize::from(orders.iter().any(|o| o.is_ne()));
+        self.lower_first += usize::from(orders.iter().any(|o| o.is_lt()));
+    }
+}
+
+impl Display for Sums {
+    fn fmt(&self, f: &mut fmt::Formatter) -> fmt::Result {
+        let cases = CASES.iter().zip(self.cases);
+        let cases: Vec<String> = cases.map(|(case, n)| format!("{case} {n:?}")).collect();
+        write!(
+            f,
+            "sums with a path and without: {}; records with different sums of equal llr bits: {}, with the lower one first: {}",
+            cases.join(", "),
+            self.equal_llr,
+            self.lower_first
         )
     }
 }

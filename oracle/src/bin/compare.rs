@@ -5,9 +5,10 @@
 use oracle::arguments::count_and_seed;
 use oracle::calls::Call;
 use oracle::damage::{damage, lengths};
-use oracle::generate::{phrase, Kind};
+use oracle::entry::ENTRY_WORDS;
+use oracle::generate::{alike, phrase, Kind};
 use oracle::maker::encode;
-use oracle::ours::{self, Desk};
+use oracle::ours::Desk;
 use oracle::phrase::Phrase;
 use oracle::random::Random;
 use oracle::tally::{conclude, Answers, Tally};
@@ -26,7 +27,7 @@ impl Records {
     fn compare(&mut self, r: &mut Random, record: &[u8], words: usize) {
         let (best, back, out) = lengths(r, words);
         let wanted = wanted::decode(record, best, back, out);
-        self.answers.count(&wanted);
+        self.answers.count(record, &wanted);
         self.masked_out += usize::from(wanted.is_ok() && Phrase::parse(record).lists_masked_out());
         let got = self.desk.decode(record, best, back, out);
         self.tally
@@ -34,22 +35,26 @@ impl Records {
     }
 }
 
+/// One in 200 is maximal, and one in 10 has sums that llr does not tell apart.
+fn drawn(r: &mut Random, i: usize) -> Phrase {
+    match i % 10 {
+        _ if i % 200 == 0 => phrase(r, Kind::Maximal),
+        4 => alike(r),
+        _ => phrase(r, [Kind::Tiny, Kind::Tiny, Kind::Typical][i % 3]),
+    }
+}
+
 fn main() {
     let (count, mut r) = count_and_seed("compare");
     let (mut records, mut calls) = (Records::default(), Tally::default());
     for i in 0..count {
-        let kind = if i % 200 == 0 {
-            Kind::Maximal
-        } else {
-            [Kind::Tiny, Kind::Tiny, Kind::Typical][i % 3]
-        };
-        let p = phrase(&mut r, kind);
+        let p = drawn(&mut r, i);
         let mut record = encode(&p);
         if i % 2 == 1 {
             damage(&mut r, &mut record);
             record.shrink_to_fit();
         }
-        records.compare(&mut r, &record, ours::ENTRY_WORDS * p.candidates.len());
+        records.compare(&mut r, &record, ENTRY_WORDS * p.candidates.len());
         let call = Call::draw(&mut r);
         calls.compare(&call.wanted(), &call.ours(), || format!("{call:?}"));
     }

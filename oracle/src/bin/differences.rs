@@ -1,5 +1,6 @@
 //! The inputs of docs/DIFFERENCES.md: what the original answers for them as listed, and given only frames within the mask.
 use oracle::{
+    entry::entries,
     phrase::Phrase,
     reference::{decode, Given},
 };
@@ -25,13 +26,10 @@ fn base(f: usize) -> Phrase {
 fn show(name: &str, mut p: Phrase) {
     p.scores = vec![vec![0.0]; p.nuclei.len() + p.anchors.len()];
     let words = |given| {
-        let w = decode(&p, given);
-        let k = w[3] as usize;
+        let first = entries(&decode(&p, given)).next().unwrap();
         format!(
             "pass {} llr {} units {:?}",
-            w[2],
-            f32::from_bits(w[1]),
-            w[4..4 + 3 * k].chunks(3).collect::<Vec<_>>()
+            first.pass, first.llr, first.units
         )
     };
     println!(

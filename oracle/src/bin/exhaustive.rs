@@ -3,10 +3,12 @@
 //! each kind how many were compared and how many differ; the exit status is 0 only for none.
 //! `small` goes through fewer, for a run under valgrind.
 
+use oracle::entry::ENTRY_WORDS;
 use oracle::every::{lists, lists_of, picks};
+use oracle::generate::HALF_LEAST;
 use oracle::maker::{encode, sample};
 use oracle::most_units;
-use oracle::ours::{self, Desk, ENTRY_WORDS, WORK_CELLS};
+use oracle::ours::{self, Desk, WORK_CELLS};
 use oracle::phrase::Phrase;
 use oracle::tally::{conclude, Answers, MostUnits, Tally};
 use oracle::wanted;
@@ -84,7 +86,7 @@ struct Records {
 impl Records {
     fn decode(&mut self, record: &[u8], best: usize, back: usize, out: usize) {
         let wanted = wanted::decode(record, best, back, out);
-        self.answers.count(&wanted);
+        self.answers.count(record, &wanted);
         let got = self.desk.decode(record, best, back, out);
         self.tally.compare(&Ok(wanted), &got, || {
             format!("record {record:?}, lent {best} {back} {out}")
@@ -183,6 +185,51 @@ fn two_stages(records: &mut Records, most_boundaries: usize, figures: &[Figures]
                         durations: [[0.0; 75], [-0.5; 75]],
                     });
                 }
+            }
+        }
+    }
+}
+
+/// Two boundaries with a nucleus between them, on a 0 byte of the mask or not; two candidates of one unit, each by its own score, and two
+/// of more, for which there is no path. Only the first frame is outside a unit.
+fn one_unit(voiced: bool, scores: &[f32], duration: f64, figures: Figures) -> Phrase {
+    let (per_frame, insertion_llr, unvoiced) = figures;
+    let mut mask = vec![true; 13];
+    mask[7] = voiced;
+    Phrase {
+        mask,
+        nuclei: vec![7],
+        boundaries: vec![1, 13],
+        anchors: vec![],
+        added: vec![],
+        columns: 2,
+        scores: vec![scores.to_vec()],
+        candidates: vec![(1, vec![0]), (2, vec![1]), (3, vec![0; 2]), (4, vec![1; 3])],
+        per_frame,
+        insertion_llr,
+        unvoiced,
+        speech: Some((1, 13)),
+        durations: [[duration; 75]; 2],
+    }
+}
+
+/// Sums at the borders of what llr shows: at the clamp and beyond it on both sides, both zeros, sums that narrow to a zero and that just
+/// do not, and different sums that clamp or narrow to the same. Each pair of scores comes in either order.
+fn sums(records: &mut Records, most_scores: usize) {
+    let past_half = f64::from_bits(HALF_LEAST.to_bits() + 1);
+    let scores = [
+        0.0, 1.0e6, -1.0e6, -0.0, 999_999.9, -999_999.9, 1.0e-45, 1.0e-12, 0.1,
+    ];
+    let durations = [0.0, -0.0, -1.0, -1.0e6, -HALF_LEAST, -past_half];
+    let per_frame = [0.0, -0.0, 1.0e3, -1.0e3, -1.0e-10, -HALF_LEAST, -past_half];
+    let unvoiced = [0.0, -0.0, 0.1, -0.1, 1.0e6, -1.0e6, 1.0e-45];
+    let figures: Vec<Figures> = pairs(&per_frame, &unvoiced)
+        .flat_map(|(&f, &u)| [(f, 0.0, u), (f, -1.0, u)])
+        .collect();
+    for scores in lists_of(&scores[..most_scores], 2) {
+        for (&duration, &figures) in pairs(&durations, &figures) {
+            for voiced in [true, false] {
+                records.phrase(&one_unit(voiced, &scores, duration, figures));
             }
         }
     }
@@ -396,11 +443,15 @@ impl Size {
         let figures = all_figures();
         let figures = &figures[..self.of(figures.len(), 1)];
         let values: Vec<u8> = (0..=u8::MAX).step_by(self.of(1, 85)).collect();
-        let [mut one, mut two, mut changed] = [(); 3].map(|()| Records::default());
+        let [mut one, mut two, mut border, mut changed] = [(); 4].map(|()| Records::default());
         one_stage(&mut one, self.of(4, 2), figures);
         two_stages(&mut two, self.of(3, 2), figures);
+        sums(&mut border, self.of(9, 2));
         changed_samples(&mut changed, &values);
-        one.report("one stage") + two.report("two stages") + changed.report("changed samples")
+        one.report("one stage")
+            + two.report("two stages")
+            + border.report("sums at borders")
+            + changed.report("changed samples")
     }
 
     fn most_units(self) -> usize {

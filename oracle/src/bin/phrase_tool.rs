@@ -4,9 +4,10 @@
 
 use oracle::arguments::count_and_seed;
 use oracle::damage::damage;
+use oracle::entry::ENTRY_WORDS;
 use oracle::generate::{phrase, Kind};
 use oracle::maker::{encode, encode_shared};
-use oracle::ours::{Desk, ENTRY_WORDS, WORK_CELLS};
+use oracle::ours::{Desk, WORK_CELLS};
 use oracle::random::Random;
 use oracle::tally::{conclude, Answers, Tally};
 use std::io::{BufRead, BufReader, Lines, Write};
@@ -108,7 +109,7 @@ fn main() {
         for (record, (number, again, sentence)) in batch.iter().zip(&seen) {
             let decoded = desk.decode(record, WORK_CELLS, WORK_CELLS, 16 * ENTRY_WORDS);
             let decoded = decoded.expect("lent memory as it should be");
-            answers.count(&decoded);
+            answers.count(record, &decoded);
             accepted += usize::from(decoded.is_ok());
             let wanted = decoded.err().unwrap_or(0);
             numbers.compare(&wanted, number, || format!("{sentence}: record {record:?}"));

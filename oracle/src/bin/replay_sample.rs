@@ -1,16 +1,18 @@
 //! replay_sample COUNT SEED: writes to standard output the cases that `crates/replay` replays, with the original's answers. For each of
 //! COUNT phrases, tiny to maximal, there is its record, a damaged copy that is refused by the number whose turn it is, for every second
-//! one a damaged copy as it comes, and three calls of the other entries. After each record come two calls for the most units in it, and
-//! at the end all four on each of some phrases in which many units fit. On standard error stands what `crates/replay` is to print, and
-//! what the records hold.
+//! one a damaged copy as it comes, and three calls of the other entries. After each of these records come two calls for the most units in
+//! it, and after all of them the four calls on each of some phrases in which many units fit. The end was added later, so that what stands
+//! before it stayed as it was: records of phrases whose sums llr does not tell apart, and the sample phrase with outputs from 52 words for
+//! each entry on. On standard error stands what `crates/replay` is to print, and what the records hold.
 
 use oracle::arguments::count_and_seed;
 use oracle::calls::Call;
 use oracle::damage::{damage, lengths};
-use oracle::generate::{many_units, phrase, share_stages, Kind};
+use oracle::entry::ENTRY_WORDS;
+use oracle::generate::{alike, many_units, phrase, share_stages, Kind};
 use oracle::maker::{encode, encode_shared, sample};
 use oracle::most_units::{self, word_pairs};
-use oracle::ours::{Decoded, ENTRY_WORDS, WORK_CELLS};
+use oracle::ours::{Decoded, WORK_CELLS};
 use oracle::random::Random;
 use oracle::replay::Sample;
 use oracle::tally::{Answers, MostUnits};
@@ -21,8 +23,12 @@ use std::io::Write;
 const TRIES: usize = 2000;
 const LONGEST_COPY: usize = 40_000;
 
-/// How many phrases there are in which many units fit.
+/// How many phrases there are in which many units fit, and whose sums llr does not tell apart.
 const MANY: usize = 200;
+const ALIKE: usize = 150;
+
+/// The words of an entry before the halves of the sum were added: an output that is lent by them is too short.
+const FORMER_WORDS: usize = 52;
 
 struct Writer {
     sample: Sample,
@@ -33,9 +39,13 @@ struct Writer {
 }
 
 impl Writer {
-    fn record(&mut self, record: &[u8], lent: (usize, usize, usize), decoded: &Decoded) {
-        self.answers.count(decoded);
+    fn decoded(&mut self, record: &[u8], lent: (usize, usize, usize), decoded: &Decoded) {
+        self.answers.count(record, decoded);
         self.sample.record(record, lent, decoded);
+    }
+
+    fn record(&mut self, record: &[u8], lent: (usize, usize, usize), decoded: &Decoded) {
+        self.decoded(record, lent, decoded);
         for _ in 0..2 {
             let pairs = word_pairs(&mut self.words);
             let drawn = self.words.pick(&pairs);
@@ -124,6 +134,21 @@ impl Writer {
             self.most_units(&record, pair);
         }
     }
+
+    fn alike(&mut self, r: &mut Random) {
+        let p = alike(r);
+        let (record, lent) = (encode(&p), lent(r, ENTRY_WORDS * p.candidates.len()));
+        let decoded = wanted::decode(&record, lent.0, lent.1, lent.2);
+        self.decoded(&record, lent, &decoded);
+    }
+
+    fn outputs(&mut self) {
+        let record = encode(&sample());
+        for out in 2 * FORMER_WORDS..=2 * ENTRY_WORDS + 1 {
+            let decoded = wanted::decode(&record, WORK_CELLS, WORK_CELLS, out);
+            self.decoded(&record, (WORK_CELLS, WORK_CELLS, out), &decoded);
+        }
+    }
 }
 
 /// Lengths as damage draws them, and the long ones a little longer.
@@ -149,6 +174,8 @@ fn main() {
     w.longest(&mut r);
     (0..count).for_each(|i| w.phrase(&mut r, i));
     (0..MANY).for_each(|_| w.many_units());
+    (0..ALIKE).for_each(|_| w.alike(&mut r));
+    w.outputs();
     eprint!("{}", w.sample.printed());
     eprintln!("records {}", w.answers);
     eprintln!("calls for the most units {}", w.most_units);
