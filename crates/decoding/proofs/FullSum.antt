@@ -100,6 +100,7 @@ module _ (bytes : List ℕ) (accepted : refusalOf bytes ≡ none) where
         answer = a .answer;
         demanded = a .demanded;
         id = refl;
+        pass = refl;
         bits = bits;
         isFinite = a .real .isFinite;
         value = ap (ofBits binary64) bits ∙ ofBits-toBits binary64 _ (a .real .isHeld);

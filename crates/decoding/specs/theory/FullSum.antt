@@ -10,7 +10,7 @@ use Rattle.ieee.specs.Convert.{clampedLog}
 use Rattle.phrase.specs.Phrase.{Phrase}
 use Rattle.paths.specs.Path.{sum}
 use Rattle.paths.specs.Passes.{passProblem}
-use Rattle.paths.specs.Demand.{Answer, found, none, unvoiced, Demanded}
+use Rattle.paths.specs.Demand.{Answer, found, none, unvoiced, answerNumber, Demanded}
 use Rattle.record.specs.inner.Reading.{candidateOf}
 use Rattle.entries.specs.theory.FullSum.{sumIn}
 use Rattle.decoding.specs.EntryOf.{missedTotal}
@@ -21,14 +21,16 @@ sumFor phrase columns (found pass path total) = sum (passProblem phrase pass col
 sumFor phrase columns none = missedTotal phrase (length columns)
 sumFor phrase columns unvoiced = missedTotal phrase (length columns)
 
--- The entry whose words stand at the front is that of a candidate with an answer as demanded. Words 4 and 5 put together are the bits of
--- the answer's sum, which is finite; read as an f64 they are that sum, with a zero's sign; and the llr is that sum, clamped and narrowed.
+-- The entry whose words stand at the front is that of a candidate with an answer as demanded, by its id and its pass. Words 4 and 5 put
+-- together are the bits of the answer's sum, which is finite; read as an f64 they are that sum, with a zero's sign; and the llr is that
+-- sum, clamped and narrowed.
 pub record ShowsSum (phrase : Phrase) (words : List ℕ) : Type 0 where
   pub number : ℕ
   pub below : number < length (phrase .candidates)
   pub answer : Answer
   pub demanded : Demanded phrase (candidateOf phrase number .columns) answer
   pub id : getD words 0 0 ≡ candidateOf phrase number .id
+  pub pass : getD words 2 0 ≡ answerNumber answer
   pub bits : sumIn words ≡ toBits binary64 (sumFor phrase (candidateOf phrase number .columns) answer)
   pub isFinite : T (finite (sumFor phrase (candidateOf phrase number .columns) answer))
   pub value : ofBits binary64 (sumIn words) ≡ sumFor phrase (candidateOf phrase number .columns) answer
