@@ -36,12 +36,14 @@ fn put_head(out: &mut [u32], at: usize, head: EntryHead)
     let llr = head.llr;
     let total = head.total;
     let bits = f64::to_bits(total);
+    let low = (bits % HALF) as u32;
+    let high = (bits / HALF) as u32;
     out[at] = head.id;
     out[at + 1] = f32::to_bits(llr);
     out[at + 2] = head.pass;
     out[at + 3] = head.units as u32;
-    out[at + 4] = (bits % HALF) as u32;
-    out[at + 5] = (bits / HALF) as u32;
+    out[at + 4] = low;
+    out[at + 5] = high;
 }
 
 fn put_units(out: &mut [u32], at: usize, count: usize, starts: &[u32], ends: &[u32], rows: &[u32])

@@ -1,8 +1,8 @@
--- `put_head`: six stores, one after the other.
+-- `put_head`: six stores, one after the other. The high half fits its word, since the bits of an f64 are 64.
+use mathlib.Core.Path.{sym, subst}
 use native.Mathlib.Omega.{arith}
 use native.Mathlib.Numerals.{add-one, add-two, add-three, add-four, add-five}
 use borrow.Author.Needs.{needs}
-use mathlib.Core.Path.{sym, subst}
 use lib.Dec.{T}
 use lib.ListN.{length-set}
 use lib.Ieee.{binary64, fits}
@@ -12,6 +12,14 @@ use Rattle.entries.proofs.words.put_head.Tie as tie
 
 float-to-bits-bits : tie.Need-float-to-bits-bits
 float-to-bits-bits c = search needs
+
+cast-low : tie.Need-cast-low
+cast-low c = search needs
+
+cast-high : tie.Need-cast-high
+cast-high c =
+    let held : T (fits binary64 (c .args .head .total)) = subst T (sym (c .good .1 .1 .0 .1 .1 .1 .1 .1 .1 .0 .1)) tt in
+    omega (arith, toBits-lt binary64 (c .args .head .total) held)
 
 mul-out : tie.Need-mul-out
 mul-out c = search needs
@@ -52,9 +60,6 @@ mul-out-4 c = search needs
 slice-write-out-4 : tie.Need-slice-write-out-4
 slice-write-out-4 c = simp length-set (omega arith)
 
-cast-out-2 : tie.Need-cast-out-2
-cast-out-2 c = search needs
-
 add-out-4 : tie.Need-add-out-4
 add-out-4 c = search needs
 
@@ -63,11 +68,6 @@ mul-out-5 c = search needs
 
 slice-write-out-5 : tie.Need-slice-write-out-5
 slice-write-out-5 c = simp length-set (omega arith)
-
-cast-out-3 : tie.Need-cast-out-3
-cast-out-3 c =
-    let held : T (fits binary64 (c .before .args .head .total)) = subst T (sym (c .before .good .1 .1 .0 .1 .1 .1 .1 .1 .1 .0 .1)) tt in
-    omega (arith, toBits-lt binary64 (c .before .args .head .total) held)
 
 add-out-5 : tie.Need-add-out-5
 add-out-5 c = search needs
@@ -89,6 +89,8 @@ put-head-spec =
     tie.close
     (tie.spec
     float-to-bits-bits
+    cast-low
+    cast-high
     mul-out
     slice-write-out
     float-to-bits-out
@@ -102,11 +104,9 @@ put-head-spec =
     add-out-3
     mul-out-4
     slice-write-out-4
-    cast-out-2
     add-out-4
     mul-out-5
     slice-write-out-5
-    cast-out-3
     add-out-5
     mul-out-6
     slice-write-out-6
