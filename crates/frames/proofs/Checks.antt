@@ -1,6 +1,6 @@
 -- What a walk for a number above a limit finds.
 use Prim.Native.Nat.{ℕ, _+_, _≤_, _<_}
-use mathlib.Core.Bool.{true, false}
+use mathlib.Core.Bool.{true, false, _||_}
 use mathlib.Core.Path.{_≡_, ap, _∙_}
 use mathlib.Core.List.{List, List·Memᴰ, List·Memᴰ·head, List·Memᴰ·tail}
 use native.Mathlib.Omega.{arith}
@@ -12,13 +12,15 @@ use Rattle.laws.proofs.Choices.{neither-left, neither-right}
 use Rattle.frames.specs.Outcome.{anyAbove}
 
 module _ (limit : ℕ) (xs : List ℕ) (i : ℕ) where
-  pub any-found : i < length xs → limit < getD xs i 0 → anyAbove limit (drop i xs) ≡ true
+  pub any-here : i < length xs → anyAbove limit (drop i xs) ≡ (ltb limit (getD xs i 0) || anyAbove limit (drop (i + 1) xs))
   unfolding anyAbove
-  any-found h above = ap (anyAbove limit) (left-from xs i 0 h) ∙ rw (lt-ltb limit (getD xs i 0) above)
+  any-here h = ap (anyAbove limit) (left-from xs i 0 h)
+
+  pub any-found : i < length xs → limit < getD xs i 0 → anyAbove limit (drop i xs) ≡ true
+  any-found h above = any-here h ∙ rw (lt-ltb limit (getD xs i 0) above)
 
   pub any-more : i < length xs → getD xs i 0 ≤ limit → anyAbove limit (drop i xs) ≡ anyAbove limit (drop (i + 1) xs)
-  unfolding anyAbove
-  any-more h below = ap (anyAbove limit) (left-from xs i 0 h) ∙ rw (le-ltb limit (getD xs i 0) below)
+  any-more h below = any-here h ∙ rw (le-ltb limit (getD xs i 0) below)
 
   pub any-end : length xs ≤ i → anyAbove limit (drop i xs) ≡ false
   unfolding anyAbove

@@ -1,4 +1,4 @@
--- Document 01's worked examples of the rate ("Proved as a group").
+-- Document 01's worked examples of the rate ("Proved as a group"), and places of gaps.
 use Prim.Native.Nat.{ℕ, zero, suc, _-_, _/_, _%_, min, max}
 use mathlib.Core.Bool.{Bool, true, false, cond}
 use mathlib.Core.Path.{_≡_, refl, ap, ap₂, _∙_}
@@ -8,7 +8,7 @@ use native.Mathlib.Omega.{arith}
 use lib.Dec.{ltb, eqb}
 use lib.Ieee.{Float, binary64, add, mul, lt, ofInt, ofBits}
 use lib.ListN.{length, replicate}
-use Rattle.rate.specs.Rate.{insert, sorted, gapsAfter, below, standsAt, firstAt, counted, half, frameSeconds, nought, median, positiveOr, rate}
+use Rattle.rate.specs.Rate.{insert, sorted, gapsAfter, below, standsAt, firstAt, atPlace, counted, half, frameSeconds, nought, median, positiveOr, rate}
 
 -- "frames 10, 30, 60 give rate 0.25", whatever the default
 pub rate-of-three : (default : Float) → rate (10 ∷ 30 ∷ 60 ∷ []) default ≡ ofBits binary64 0x3fd0_0000_0000_0000
@@ -64,3 +64,16 @@ equal-frames (suc n) f default =
     go : (b : Bool) → cond b default (positiveOr default (mul binary64 nought frameSeconds)) ≡ default
     go true = refl
     go false = refl
+
+-- of gaps 30, 10, 30 and 20 the middle two, at places 1 and 2, are 20 and 30, and the last place has the second 30
+abbrev four : List ℕ
+four = 30 ∷ 10 ∷ 30 ∷ 20 ∷ []
+
+pub places-of-four : (atPlace four 1 ≡ 20) × (atPlace four 2 ≡ 30) × (atPlace four 3 ≡ 30)
+unfolding firstAt below
+places-of-four = (refl, refl, refl)
+
+-- frames 70, 0, 90, 30 and 40 have those gaps when sorted, and half of 20 and 30 is 25 frames
+pub rate-of-five : (default : Float) → rate (70 ∷ 0 ∷ 90 ∷ 30 ∷ 40 ∷ []) default ≡ ofBits binary64 0x3fd0_0000_0000_0000
+unfolding rate median sorted insert gapsAfter firstAt below add mul lt ofInt ofBits
+rate-of-five default = refl

@@ -1,7 +1,13 @@
 -- Laws of sorted frames, their gaps and the median.
-mod Sorting
-mod Gaps
 pub mod Sorted
 pub mod Places
+mod Falls
+mod Ranks
+mod Placing
+mod Filling
+mod GapWalk
+mod NextSmaller
+mod Reach
+pub mod Middle
 pub mod Examples
 mod OneOutcome

@@ -1,16 +1,17 @@
 -- `gaps_below`: the gaps counted and those below the limit among the gaps ahead are all.
-use Prim.Native.Nat.{_+_, _-_, _≤_}
-use mathlib.Core.Path.{_≡_, sym}
-use mathlib.Core.Logic.{⊎-elim}
-use native.Mathlib.Omega.{arith}
+use Prim.Native.Nat.{ℕ, _+_, _-_, _≤_}
+use mathlib.Core.Bool.{cond}
+use mathlib.Core.Path.{_≡_, sym, ap, _∙_}
 use native.Mathlib.Nat.{zero-add}
+use native.Mathlib.Omega.{arith}
+use lib.Dec.{ltb}
 use lib.ListN.{length, drop}
 use borrow.Author.Needs.{needs}
+use Rattle.frames.proofs.Walk.{all-counted}
 use Rattle.rate.specs.Rate.{below, gaps}
-use Rattle.frames.proofs.Walk.{all-counted, one-counted, none-counted}
-use Rattle.rate.proofs.Gaps.{is-below, not-below, none-below}
-use Rattle.rate.proofs.duration.gaps_below.Statement.{statement}
-use Rattle.rate.proofs.duration.gaps_below.Tie as tie
+use Rattle.rate.proofs.GapWalk.{below-here, below-end}
+use Rattle.rate.proofs.gaps.gaps_below.Statement.{statement}
+use Rattle.rate.proofs.gaps.gaps_below.Tie as tie
 
 abbrev Inv-loop : tie.InvT-loop
 Inv-loop ascending limit count₀ i₀ count i =
@@ -26,13 +27,13 @@ add-loop : tie.Need-add-loop Inv-loop μ-loop
 add-loop c = omega arith
 
 gap-after-requires : tie.Need-gap-after-requires Inv-loop μ-loop
-gap-after-requires c κs = (c .before .before .before .pre, c .loop-test .taken)
+gap-after-requires c κs = (c .before .before .before .pre .ascends, c .loop-test .taken)
 
-cast-if1 : tie.Need-cast-if1 Inv-loop μ-loop
-cast-if1 c = search needs
+one-if-requires : tie.Need-one-if-requires Inv-loop μ-loop
+one-if-requires c κs = search needs
 
 add-count : tie.Need-add-count Inv-loop μ-loop
-add-count c = omega arith
+add-count c = omega (arith, c .before .before .before .before .before .pre .few)
 
 add-i : tie.Need-add-i Inv-loop μ-loop
 add-i c = omega arith
@@ -42,16 +43,14 @@ loop-less c = omega arith
 
 loop-again : tie.Need-loop-again Inv-loop μ-loop
 loop-again c =
-    let before = c .before .before .before .loop .inv .2 in
-    let gap = c .before .gap-after .ensures in
-    let inside = c .before .before .loop-test .taken in
-    ⊎-elim
-    (λ w. (omega arith, omega arith, rw (w .1) (one-counted _ _ _ _ before (is-below _ _ _ inside gap _ (w .0 .taken)))))
-    (λ w. (omega arith, omega arith, rw (w .1) (none-counted _ _ _ _ before (not-below _ _ _ inside gap _ (w .0 .left)))))
-    (c .if1 .came)
+    let before = c .before .before .before .loop in
+    let args = c .before .before .before .before .before .args in
+    let here = below-here (args .ascending .now) (before .i) (args .limit) (c .before .before .loop-test .taken) in
+    let one = c .one-if .ensures .0 ∙ ap (λ (g : ℕ). cond (ltb g (args .limit)) 1 0) (c .before .gap-after .ensures) in
+    (omega arith, omega arith, omega (arith, before .inv .2, here, one))
 
 returns : tie.Need-returns Inv-loop μ-loop
-returns c = all-counted _ _ _ (c .before .loop .inv .2) (none-below _ _ _ (c .loop-test .left))
+returns c = all-counted _ _ _ (c .before .loop .inv .2) (below-end _ _ _ (c .loop-test .left))
 
 pub gaps-below-spec : {M : Type 1} → statement M
 gaps-below-spec =
@@ -62,7 +61,7 @@ gaps-below-spec =
     loop-holds
     add-loop
     gap-after-requires
-    cast-if1
+    one-if-requires
     add-count
     add-i
     loop-less
