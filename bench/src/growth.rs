@@ -2,8 +2,7 @@
 //! record they come from.
 
 use crate::records::{evenly_spread, Shape};
-use crate::sides::agreed_passes;
-use crate::timing::interleaved;
+use crate::sides::{agreed_passes, decode_times};
 
 const ROUNDS: usize = 5_000;
 
@@ -55,7 +54,7 @@ fn times(name: &str, shape: Shape) -> (f64, f64) {
     let phrase = evenly_spread(shape);
     let passes = agreed_passes(name, &phrase);
     assert!(passes.iter().all(|&p| p == 0), "{name}: {passes:?}");
-    let (ours, original) = interleaved(&phrase, ROUNDS);
+    let (ours, original) = decode_times(&phrase, ROUNDS);
     (ours.least(), original.least())
 }
 

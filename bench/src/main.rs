@@ -1,12 +1,18 @@
-//! The original and ours on the same records, in one run.
+//! The original and ours on the same records, and their `rate_s` on the same lists of frames, in one run.
 //!
-//! bench                    the ratio ours/original for each record; the exit status is 1 if one is above its target
+//! bench                    the ratio ours/original for each record, then for each set of lists; the exit status is 1 if one is above
+//!                          its target
 //! bench print              the same, but the exit status is 0
+//! bench rates              the ratios of `rate_s` only; the exit status is 1 if one is above its target
 //! bench SIDE RECORD COUNT  `ours` or `original` on `typical`, `maximal` or `heaviest`, COUNT times, for a profiler; with `most_units` our
 //!                          call for the most units of the nuclei stage, strict
+//! bench rate SIDE ORDER FRAMES COUNT
+//!                          `rate_s` of `ours` or `original`, COUNT times on each list of a set, `ascending` or `shuffled`, of 2, 8, 16, 32
+//!                          or 64 frames, for a profiler; prints the number of calls
 //! bench growth             how cost grows, as a table
 
 mod growth;
+mod rates;
 mod records;
 mod sides;
 mod timing;
@@ -14,7 +20,7 @@ mod timing;
 use oracle::maker::encode;
 use oracle::ours::most_units_number;
 use oracle::phrase::Phrase;
-use sides::{agreed_passes, Original, Ours};
+use sides::{agreed_passes, decode_times, Original, Ours};
 use std::hint::black_box;
 use std::process::exit;
 
@@ -32,8 +38,8 @@ fn records() -> [(&'static str, Phrase, u32, usize, f64); 3] {
     ]
 }
 
-/// Prints the ratios; whether each is within its target.
-fn ratios() -> bool {
+/// Prints the ratios of the records; whether each is within its target.
+fn record_ratios() -> bool {
     println!(
         "| Record | Ours, µs | Original, µs | Ratio of the minima | of the medians | Rounds |"
     );
@@ -42,7 +48,7 @@ fn ratios() -> bool {
     for (name, phrase, pass, rounds, target) in records() {
         let passes = agreed_passes(name, &phrase);
         assert!(passes.iter().all(|&p| p == pass), "{name}: {passes:?}");
-        let (ours, original) = timing::interleaved(&phrase, rounds);
+        let (ours, original) = decode_times(&phrase, rounds);
         let ratio = ours.least() / original.least();
         println!(
             "| {name} | {:.1} | {:.1} | {ratio:.2} | {:.2} | {rounds} |",
@@ -53,6 +59,14 @@ fn ratios() -> bool {
         met &= ratio <= target;
     }
     met
+}
+
+/// Prints the ratios of the records and of `rate_s`; whether each is within its target.
+fn all_ratios() -> bool {
+    let records_met = record_ratios();
+    println!();
+    let rates_met = rates::ratios();
+    records_met && rates_met
 }
 
 /// Runs one side alone.
@@ -84,20 +98,37 @@ fn repeat(side: &str, record: &str, count: usize) {
 }
 
 fn usage() -> ! {
-    eprintln!("bench [print | growth | SIDE RECORD COUNT]; SIDE: ours, original, most_units; RECORD: typical, maximal, heaviest");
+    eprintln!("bench [print | rates | growth | SIDE RECORD COUNT | rate SIDE ORDER FRAMES COUNT]");
+    eprintln!(
+        "SIDE: ours, original, and without `rate` most_units; RECORD: typical, maximal, heaviest"
+    );
+    eprintln!("ORDER: ascending, shuffled; FRAMES: 2, 8, 16, 32, 64");
     exit(2);
+}
+
+fn number(text: &str) -> usize {
+    text.parse().unwrap_or_else(|_| usage())
+}
+
+/// The exit status is 1 where a target is missed.
+fn exit_by(met: bool) -> ! {
+    exit(i32::from(!met));
 }
 
 fn main() {
     let args: Vec<String> = std::env::args().skip(1).collect();
     let args: Vec<&str> = args.iter().map(String::as_str).collect();
     match args[..] {
-        [] => exit(i32::from(!ratios())),
+        [] => exit_by(all_ratios()),
         ["print"] => {
-            ratios();
+            all_ratios();
         }
+        ["rates"] => exit_by(rates::ratios()),
         ["growth"] => growth::print(),
-        [side, record, count] => repeat(side, record, count.parse().unwrap_or_else(|_| usage())),
+        [side, record, count] => repeat(side, record, number(count)),
+        ["rate", side, order, frames, count] => {
+            rates::repeat(side, order, number(frames), number(count))
+        }
         _ => usage(),
     }
 }

@@ -1,6 +1,7 @@
 //! The two sides on one record, each as its caller has it: ours is lent the record's bytes and memory, the original is
 //! given what its `decode` has before it makes the decoder.
 
+use crate::timing::{Rounds, Times};
 use oracle::entry::{entries, ENTRY_WORDS};
 use oracle::maker::encode;
 use oracle::ours::{decode, WORK_CELLS};
@@ -97,4 +98,14 @@ pub fn agreed_passes(name: &str, p: &Phrase) -> Vec<u32> {
         "{name}: what is timed is not what was compared"
     );
     entries(words).map(|e| e.pass).collect()
+}
+
+/// The times of ours and of the original for a single decode.
+pub fn decode_times(p: &Phrase, count: usize) -> (Times, Times) {
+    let (mut ours, original) = (Ours::of(p), Original::of(p));
+    let mut rounds = Rounds::default();
+    for _ in 0..count {
+        rounds.run(|| ours.run(), || original.run());
+    }
+    rounds.times()
 }

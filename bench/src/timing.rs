@@ -1,11 +1,9 @@
-//! Times of the two sides on one record, interleaved.
+//! Times of two sides, interleaved.
 
-use crate::sides::{Original, Ours};
-use oracle::phrase::Phrase;
 use std::hint::black_box;
 use std::time::Instant;
 
-/// One side's times of single decodes, in seconds.
+/// One side's times of single turns, in seconds.
 pub struct Times(Vec<f64>);
 
 impl Times {
@@ -24,22 +22,36 @@ impl Times {
     }
 }
 
-/// In each round one decode of either side, the one that goes first changing from round to round. The original's answer is
-/// given back to the heap outside the timed part.
-pub fn interleaved(p: &Phrase, rounds: usize) -> (Times, Times) {
-    let (mut ours, original) = (Ours::of(p), Original::of(p));
-    let (mut our_times, mut original_times) = (Vec::new(), Vec::new());
-    for round in 0..2 * rounds {
-        if (round / 2 + round) % 2 == 0 {
-            let begin = Instant::now();
-            black_box(ours.run());
-            our_times.push(begin.elapsed().as_secs_f64());
+/// What the turns of either side took, in seconds.
+#[derive(Default)]
+pub struct Rounds {
+    ours: Vec<f64>,
+    original: Vec<f64>,
+}
+
+impl Rounds {
+    /// One turn of either side, the one that goes first changing from round to round.
+    pub fn run<A, B>(&mut self, ours: impl FnOnce() -> A, original: impl FnOnce() -> B) {
+        if self.ours.len() % 2 == 0 {
+            self.ours.push(seconds(ours));
+            self.original.push(seconds(original));
         } else {
-            let begin = Instant::now();
-            let answer = black_box(original.run());
-            original_times.push(begin.elapsed().as_secs_f64());
-            drop(answer);
+            self.original.push(seconds(original));
+            self.ours.push(seconds(ours));
         }
     }
-    (Times::of(our_times), Times::of(original_times))
+
+    /// The times of ours and of the original.
+    pub fn times(self) -> (Times, Times) {
+        (Times::of(self.ours), Times::of(self.original))
+    }
+}
+
+/// The time of a turn. Its answer is given back to the heap outside the timed part.
+fn seconds<Answer>(turn: impl FnOnce() -> Answer) -> f64 {
+    let begin = Instant::now();
+    let answer = black_box(turn());
+    let seconds = begin.elapsed().as_secs_f64();
+    drop(answer);
+    seconds
 }
