@@ -20,6 +20,7 @@ pub mod ours;
 pub mod parts;
 pub mod phrase;
 pub mod random;
+pub mod rates;
 pub mod reference;
 pub mod refusal;
 pub mod replay;

@@ -141,9 +141,28 @@ impl Desk {
 
 /// The rate, or the number of the refusal.
 pub fn rate_s(frames: &[u32], default_s: f64) -> Result<f64, i32> {
+    // SAFETY: a slice.
+    unsafe { rate_s_of(frames.as_ptr(), frames.len(), default_s) }
+}
+
+/// The same with the frames between red zones; an error says that a word of them or of the zones was changed.
+pub fn rate_s_in_zones(frames: &[u32], default_s: f64) -> Result<Result<f64, i32>, String> {
+    let words = [&[MARK; ZONE], frames, &[MARK; ZONE]].concat();
+    let mut lent = words.clone();
+    // SAFETY: behind the first zone there are the frames, in memory that may be written, so that a write is seen and not undefined.
+    let answer = unsafe { rate_s_of(lent.as_mut_ptr().add(ZONE), frames.len(), default_s) };
+    if lent != words {
+        return Err("the frames or the words around them were changed".into());
+    }
+    Ok(answer)
+}
+
+/// # Safety
+///
+/// `n` frames can be read there.
+unsafe fn rate_s_of(frames: *const u32, n: usize, default_s: f64) -> Result<f64, i32> {
     let mut rate = f64::from_bits(MARK_64);
-    // SAFETY: a slice and a place for the rate.
-    let answer = unsafe { tikuwero_rate_s(frames.as_ptr(), frames.len(), default_s, &mut rate) };
+    let answer = tikuwero_rate_s(frames, n, default_s, &mut rate);
     if answer < 0 {
         assert_eq!(rate.to_bits(), MARK_64, "rate_s wrote on a refusal");
         Err(-answer)

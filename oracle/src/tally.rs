@@ -1,10 +1,12 @@
-//! How many answers were compared and how many differ, and what records were answered with.
+//! How many answers were compared and how many differ, what records were answered with, and which lists of frames.
 
 use crate::entry::{entries, Entry};
 use crate::most_units::{Answer, Most, CAP};
 use crate::ours::Decoded;
 use crate::phrase::Phrase;
+use crate::wanted;
 use std::cmp::Ordering;
+use std::collections::BTreeSet;
 use std::fmt::{self, Debug, Display};
 use std::process::exit;
 
@@ -168,6 +170,56 @@ impl Display for MostUnits {
             write!(f, "\n{name:14}{row}")?;
         }
         Ok(())
+    }
+}
+
+/// Which lists of frames were lent for a rate: how many were accepted, and refused by the refusal's number; and which kinds there were.
+#[derive(Default)]
+pub struct Rates {
+    accepted: usize,
+    refused: [usize; 12],
+    numbers_of_frames: BTreeSet<usize>,
+    /// of two frames or more
+    ascending: usize,
+    /// accepted, with gaps
+    even_gaps: usize,
+    /// accepted, with gaps whose median is 0
+    fell_back: usize,
+}
+
+impl Rates {
+    pub fn count(&mut self, frames: &[u32], answer: &Result<u64, i32>) {
+        self.numbers_of_frames.insert(frames.len());
+        self.ascending += usize::from(frames.len() > 1 && frames.is_sorted());
+        match answer {
+            Err(number) => self.refused[*number as usize] += 1,
+            Ok(_) => {
+                self.accepted += 1;
+                self.even_gaps += usize::from(frames.len() > 1 && frames.len() % 2 == 1);
+                // a rate is above 0, so this default comes back only where it is fallen back to
+                let fell_back = wanted::rate_s(frames, 0.0) == Ok(0);
+                self.fell_back += usize::from(frames.len() > 1 && fell_back);
+            }
+        }
+    }
+}
+
+impl Display for Rates {
+    fn fmt(&self, f: &mut fmt::Formatter) -> fmt::Result {
+        let numbers = &self.numbers_of_frames;
+        write!(
+            f,
+            "of {} different numbers of frames, from {:?} to {:?}; ascending, of two frames or more: {}; accepted: {}, with an even \
+             number of gaps {}, with the default for a median of 0 {}; refused by 1 to 11: {:?}",
+            numbers.len(),
+            numbers.first().unwrap_or(&0),
+            numbers.last().unwrap_or(&0),
+            self.ascending,
+            self.accepted,
+            self.even_gaps,
+            self.fell_back,
+            &self.refused[1..]
+        )
     }
 }
 

@@ -6,9 +6,9 @@ use crate::phrase::Phrase;
 use crate::reference::{self, Given};
 use crate::refusal::refusal;
 
-const MOST_FRAMES: usize = 64;
+pub const MOST_FRAMES: usize = 64;
 const MOST_MASK: usize = 2048;
-const LAST_FRAME: u32 = 4095;
+pub const LAST_FRAME: u32 = 4095;
 
 /// The original keeps frames on a 0 byte of the mask, which document 01 drops: it is given those that are kept.
 pub fn decode(record: &[u8], best: usize, back: usize, out: usize) -> Decoded {
@@ -20,6 +20,12 @@ pub fn decode(record: &[u8], best: usize, back: usize, out: usize) -> Decoded {
 
 /// The bits of the rate.
 pub fn rate_s(frames: &[u32], default_s: f64) -> Result<u64, i32> {
+    rate_s_refusal(frames, default_s)?;
+    Ok(original_rate_s(frames, default_s).to_bits())
+}
+
+/// The refusal of a call for the rate, if any.
+pub fn rate_s_refusal(frames: &[u32], default_s: f64) -> Result<(), i32> {
     if frames.len() > MOST_FRAMES {
         return Err(3);
     }
@@ -29,7 +35,7 @@ pub fn rate_s(frames: &[u32], default_s: f64) -> Result<u64, i32> {
     if !(-1.0e6..=1.0e6).contains(&default_s) {
         return Err(6);
     }
-    Ok(original_rate_s(frames, default_s).to_bits())
+    Ok(())
 }
 
 /// The words of the spans, where the output has this room.

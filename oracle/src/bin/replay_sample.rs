@@ -3,7 +3,8 @@
 //! one a damaged copy as it comes, and three calls of the other entries. After each of these records come two calls for the most units in
 //! it, and after all of them the four calls on each of some phrases in which many units fit. The end was added later, so that what stands
 //! before it stayed as it was: records of phrases whose sums llr does not tell apart, and the sample phrase with outputs from 52 words for
-//! each entry on. On standard error stands what `crates/replay` is to print, and what the records hold.
+//! each entry on; and after that rates of every number of frames that has gaps, in several orders, and their refusals on long ascending
+//! lists. On standard error stands what `crates/replay` is to print, and what the records and those rates hold.
 
 use oracle::arguments::count_and_seed;
 use oracle::calls::Call;
@@ -14,9 +15,10 @@ use oracle::maker::{encode, encode_shared, sample};
 use oracle::most_units::{self, word_pairs};
 use oracle::ours::{Decoded, WORK_CELLS};
 use oracle::random::Random;
+use oracle::rates::{frames, Order, Sizes, ACCEPTED_DEFAULTS, REFUSED_DEFAULTS};
 use oracle::replay::Sample;
-use oracle::tally::{Answers, MostUnits};
-use oracle::wanted;
+use oracle::tally::{Answers, MostUnits, Rates};
+use oracle::wanted::{self, LAST_FRAME, MOST_FRAMES};
 use std::io::Write;
 
 /// How often a damaged copy is drawn for one refusal, and the longest copy that is stored.
@@ -34,6 +36,7 @@ struct Writer {
     sample: Sample,
     answers: Answers,
     most_units: MostUnits,
+    rates: Rates,
     /// what the calls for the most units are drawn with: a generator of their own, so that they leave all else that is drawn as it is
     words: Random,
 }
@@ -88,8 +91,7 @@ impl Writer {
         }
     }
 
-    fn call(&mut self, r: &mut Random) {
-        let call = Call::draw(r);
+    fn call(&mut self, call: Call) {
         self.sample.call(&call, &call.wanted());
     }
 
@@ -114,7 +116,7 @@ impl Writer {
         if i % 2 == 0 {
             self.damaged(r, &record, words, 1, |_| true);
         }
-        (0..3).for_each(|_| self.call(r));
+        (0..3).for_each(|_| self.call(Call::draw(r)));
     }
 
     /// The longest record that is accepted, and a byte more, by bytes that are in no section.
@@ -149,6 +151,60 @@ impl Writer {
             self.decoded(&record, (WORK_CELLS, WORK_CELLS, out), &decoded);
         }
     }
+
+    fn rate(&mut self, frames: &[u32], default_s: f64) {
+        self.rates.count(frames, &wanted::rate_s(frames, default_s));
+        self.call(Call::Rate(frames.to_vec(), default_s));
+    }
+
+    /// So many frames: as speech has them, shuffled, with repeats, with a median gap that has another size right beside it, and any.
+    fn rates(&mut self, r: &mut Random, count: usize) {
+        let kinds = [
+            (Sizes::Syllables, Order::Ascending),
+            (Sizes::Any, Order::Shuffled),
+            (Sizes::Repeats, Order::any(r)),
+            (Sizes::Halves, Order::any(r)),
+            (Sizes::any(r), Order::any(r)),
+        ];
+        for (sizes, order) in kinds {
+            let frames = frames(r, count, sizes, order);
+            self.rate(&frames, r.pick(&ACCEPTED_DEFAULTS));
+        }
+    }
+
+    /// The most frames in each order, accepted, and refused for the highest of them.
+    fn orders(&mut self, r: &mut Random) {
+        for order in Order::ALL {
+            let mut frames = frames(r, MOST_FRAMES, Sizes::Any, order);
+            self.rate(&frames, 0.2);
+            *frames.iter_mut().max().unwrap() = LAST_FRAME + 1;
+            self.rate(&frames, 0.2);
+        }
+    }
+
+    /// Every default with the most frames, which give a rate, and with as many equal ones, which do not.
+    fn defaults(&mut self, r: &mut Random) {
+        for sizes in [Sizes::Syllables, Sizes::Zero] {
+            let frames = frames(r, MOST_FRAMES, sizes, Order::Ascending);
+            for default_s in [&ACCEPTED_DEFAULTS[..], &REFUSED_DEFAULTS].concat() {
+                self.rate(&frames, default_s);
+            }
+        }
+    }
+
+    /// Up to two frames too many, each time with the last of them at its limit or above, and with a default that is refused too, for
+    /// the lowest number is given.
+    fn long_lists(&mut self, r: &mut Random) {
+        for count in MOST_FRAMES - 2..=MOST_FRAMES + 2 {
+            let mut frames = frames(r, count, Sizes::Syllables, Order::Ascending);
+            for last in [frames[count - 1], LAST_FRAME, LAST_FRAME + 1, u32::MAX] {
+                frames[count - 1] = last;
+                for default_s in [0.2, f64::NAN] {
+                    self.rate(&frames, default_s);
+                }
+            }
+        }
+    }
 }
 
 /// Lengths as damage draws them, and the long ones a little longer.
@@ -168,16 +224,24 @@ fn main() {
         sample: Sample::default(),
         answers: Answers::default(),
         most_units: MostUnits::default(),
+        rates: Rates::default(),
         words: Random(!r.0),
     };
+    // their own too, so that the lists may change and what is drawn for the records does not
+    let mut lists = Random(r.0.rotate_left(32));
     w.good(&mut r, &encode(&sample()), 2 * ENTRY_WORDS);
     w.longest(&mut r);
     (0..count).for_each(|i| w.phrase(&mut r, i));
     (0..MANY).for_each(|_| w.many_units());
     (0..ALIKE).for_each(|_| w.alike(&mut r));
     w.outputs();
+    (2..=MOST_FRAMES).for_each(|frames| w.rates(&mut lists, frames));
+    w.orders(&mut lists);
+    w.defaults(&mut lists);
+    w.long_lists(&mut lists);
     eprint!("{}", w.sample.printed());
     eprintln!("records {}", w.answers);
     eprintln!("calls for the most units {}", w.most_units);
+    eprintln!("rates at the end {}", w.rates);
     std::io::stdout().write_all(&w.sample.bytes).unwrap();
 }
