@@ -47,13 +47,13 @@ const ROUNDS: usize = 1_000;
 const DEFAULT_S: f64 = 0.2;
 const LAST_FRAME: u32 = 4_095;
 
-/// The lists of a set; shuffled they are the ascending ones in another order.
+/// The lists of a set; shuffled they are the same ones, each in an order that is as likely as any other, the ascending one too.
 fn lists(frames: usize, order: Order) -> Vec<Vec<u32>> {
     let mut r = Random(7);
     let mut lists: Vec<_> = (0..LISTS).map(|_| nuclei(&mut r, frames)).collect();
     if order == Shuffled {
         for list in &mut lists {
-            shuffle(&mut r, list);
+            r.shuffle(list);
         }
     }
     lists
@@ -66,13 +66,6 @@ fn nuclei(r: &mut Random, count: usize) -> Vec<u32> {
     let list: Vec<u32> = successors(Some(first), next).take(count).collect();
     assert!(list[count - 1] <= LAST_FRAME, "{list:?}");
     list
-}
-
-/// Every order is as likely as any other, the ascending one too.
-fn shuffle(r: &mut Random, list: &mut [u32]) {
-    for last in (1..list.len()).rev() {
-        list.swap(last, r.below(last + 1));
-    }
 }
 
 /// Through the C interface with its checks, since that is what a coach calls. Both sides are kept out of the loop of `turn`,
