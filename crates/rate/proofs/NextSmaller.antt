@@ -1,11 +1,11 @@
 -- The gap at the place before that of another, where no gap of its own size stands there: the largest that is smaller.
-use Prim.Native.Nat.{ℕ, zero, suc, _+_, _-_, _≤_, _<_, zero-le, max}
-use mathlib.Core.Bool.{Bool, true, false, not, cond}
-use mathlib.Core.Path.{_≡_, refl, sym, ap, subst, _∙_}
+use Prim.Native.Nat.{ℕ, suc, _+_, _-_, _≤_, _<_, zero-le, max}
+use mathlib.Core.Bool.{Bool, true, false, cond}
+use mathlib.Core.Path.{_≡_, refl, subst}
 use mathlib.Core.List.{List, [], _∷_, List·Memᴰ, List·Memᴰ·head, List·Memᴰ·tail}
 use native.Mathlib.Nat.{not-suc-le-zero}
 use native.Mathlib.Omega.{arith}
-use lib.Dec.{T, ltb, ltb→lt, nltb→le, lt→ltb}
+use lib.Dec.{T, ltb, ltb→lt, lt→ltb}
 use Rattle.laws.proofs.Numbers.{by-order}
 use Rattle.frames.proofs.Ascending.{one-more}
 use Rattle.rate.specs.Rate.{below}
