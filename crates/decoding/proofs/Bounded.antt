@@ -39,30 +39,25 @@ room {l} m =
 some-anchor : (frames : List ℕ) → T (nonEmpty frames) → 0 < length frames
 some-anchor (frame ∷ frames) t = omega arith
 
--- a column of a candidate's is below the number of columns, also past its last unit, where 0 is read
-column-below : {most columns : ℕ} (c : Candidate) → 0 < columns → CandidateFit most columns c → (unit : ℕ)
-    → getD (c .columns) unit 0 < columns
-column-below {columns = columns} c any fits unit = go (c .columns) (fits .below) unit
-  where
-    go : (cs : List ℕ) → ((j : ℕ) → j < length cs → getD cs j 0 < columns) → (j : ℕ) → getD cs j 0 < columns
-    go [] below j = any
-    go (x ∷ xs) below zero = below zero (omega arith)
-    go (x ∷ xs) below (suc j) = go xs (λ i h. below (suc i) (omega arith)) j
+-- where each column given is below the number of columns, every unit's is, also past the last one, where 0 is read
+pub column-below : {columns : ℕ} (given : List ℕ) → 0 < columns → ((unit : ℕ) → unit < length given → getD given unit 0 < columns)
+    → (unit : ℕ) → getD given unit 0 < columns
+column-below [] any below unit = any
+column-below (x ∷ xs) any below zero = below zero (omega arith)
+column-below (x ∷ xs) any below (suc unit) = column-below xs any (λ i h. below (suc i) (omega arith)) unit
 
 module _ (bytes : List ℕ) (accepted : refusalOf bytes ≡ none) where
   -- an accepted record's phrase fits
   pub phrase-fit : Fit (limitsOf bytes) (layoutOf bytes .scores .count) (phraseOf bytes)
   phrase-fit = fit (record { accepted = accepted; layout = refl })
 
-  module _ (c : Candidate) (fits : CandidateFit (limitsOf bytes .units) (layoutOf bytes .scores .count) c) where
-    column : (unit : ℕ) → getD (c .columns) unit 0 < layoutOf bytes .scores .count
-    column = column-below c (phrase-fit .someColumn) fits
-
+  -- whatever columns are given, as long as the record has them
+  module _ (given : List ℕ) (below : (unit : ℕ) → unit < length given → getD given unit 0 < layoutOf bytes .scores .count) where
     stage-bounded : (stage : Stage) → length (stage .boundaries) ≤ limitsOf bytes .boundaries
         → stage .firstRow + length (stage .anchors) ≤ length (phraseOf bytes .nuclei .anchors) + length (phraseOf bytes .added .anchors)
         → ((frames : ℕ) → shortestUnit ≤ frames → frames ≤ longestUnit
         → Within binary64 (stage .duration frames) (rangesOf (limitsOf bytes) .duration))
-        → Bounded (rangesOf (limitsOf bytes)) (phraseOf bytes) stage (c .columns)
+        → Bounded (rangesOf (limitsOf bytes)) (phraseOf bytes) stage given
     stage-bounded stage few rows durations =
         let f = phrase-fit in
         record {
@@ -72,12 +67,12 @@ module _ (bytes : List ℕ) (accepted : refusalOf bytes ≡ none) where
           perFrame = f .perFrame;
           insertion = f .insertion;
           unvoiced = within-widens (f .unvoiced);
-          scores = λ row unit from below. within-widens (f .scores row _ (omega arith) (column unit));
+          scores = λ row unit from below-last. within-widens (f .scores row _ (omega arith) (column-below given (f .someColumn) below unit));
           durations = durations;
         }
 
-    pub bounded : PhraseBounded (rangesOf (limitsOf bytes)) (phraseOf bytes) (c .columns)
-    bounded =
+    pub columns-bounded : PhraseBounded (rangesOf (limitsOf bytes)) (phraseOf bytes) given
+    columns-bounded =
         let f = phrase-fit in
         record {
           nuclei = stage-bounded (phraseOf bytes .nuclei) (f .nuclei .fewBoundaries) (omega (arith, nuclei-first bytes)) (f .durations);
@@ -85,3 +80,7 @@ module _ (bytes : List ℕ) (accepted : refusalOf bytes ≡ none) where
               stage-bounded (phraseOf bytes .added) (f .added .fewBoundaries) (omega (arith, added-next bytes))
               (f .addedDurations (some-anchor (phraseOf bytes .added .anchors) exists));
         }
+
+  pub bounded : (c : Candidate) → CandidateFit (limitsOf bytes .units) (layoutOf bytes .scores .count) c
+      → PhraseBounded (rangesOf (limitsOf bytes)) (phraseOf bytes) (c .columns)
+  bounded c fits = columns-bounded (c .columns) (fits .below)

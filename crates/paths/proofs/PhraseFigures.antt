@@ -1,5 +1,5 @@
 -- The figures of a stage's problem keep to whole-number bounds where those of the phrase do. Assumes nothing.
-use mathlib.Core.List.{List, []}
+use mathlib.Core.List.{List}
 use Prim.Native.Nat.{ℕ, suc, _+_, _-_, _*_, _^_, _≤_}
 use native.Mathlib.Nat.{le-trans, mul-le-mul-left, mul-le-mul-right}
 use native.Mathlib.Omega.{arith}
@@ -27,6 +27,38 @@ counted-within : {x : Float} {a n : ℕ} (m : ℕ) → Within binary64 x a → n
 counted-within {a = a} {n = n} m p h k room =
     weaken (a * m) (mul-le-mul-left a h) (mul-within p n (le-trans (mul-le-mul-left a h) room) (le-trans h k))
 
+-- ---- what a unit is made of
+
+module _ {most : Ranges} {phrase : Phrase} {stage : Stage} {columns : List ℕ} (bounded : Bounded most phrase stage columns) where
+  score-in : (unit : ℕ) {anchors : List Anchor} → Each (InRows (stage .firstRow) (stage .firstRow + length (stage .anchors))) anchors
+      → Within binary64 (scoreOf phrase (getD columns unit 0) anchors) (most .score)
+  unfolding scoreOf
+  score-in unit each-none = bounded .unvoiced
+  score-in unit (each-more {x = anchor} (low, high) more) = bounded .scores (anchor .row) unit low high
+
+  pub score-within : (unit from to : ℕ)
+      → Within binary64 (scoreOf phrase (getD columns unit 0) (heldIn (kept phrase stage) from to)) (most .score)
+  score-within unit from to =
+      score-in unit
+      (held-rows (phrase .mask) (stage .firstRow) (stage .firstRow + length (stage .anchors)) (stage .anchors) from to (omega arith))
+
+  pub duration-within : (strictness : Strictness) (from to : ℕ) → T (admitsUnit strictness (kept phrase stage) from to)
+      → Within binary64 (stage .duration (to - from)) (most .duration)
+  unfolding admitsUnit
+  duration-within strictness from to ok =
+      let long = and-l (fitsUnit (to - from)) (mayHold strictness (length (heldIn (kept phrase stage) from to))) ok in
+      bounded .durations (to - from)
+      (leb→le shortestUnit (to - from) (and-l (leb shortestUnit (to - from)) (leb (to - from) longestUnit) long))
+      (leb→le (to - from) longestUnit (and-r (leb shortestUnit (to - from)) (leb (to - from) longestUnit) long))
+
+  -- what filler counts
+  pub inserted-le : (from to : ℕ) → length (heldIn (kept phrase (phrase .nuclei)) from to) ≤ most .nuclei
+  inserted-le from to =
+      le-trans (heldIn-le (kept phrase (phrase .nuclei)) from to)
+      (le-trans (keptIn-le (phrase .mask) (phrase .nuclei .firstRow) (phrase .nuclei .anchors)) (bounded .nuclei))
+
+-- ---- the figures of a problem
+
 module _ {most : Ranges} {phrase : Phrase} {stage : Stage} {columns : List ℕ} (room : Room most)
     (bounded : Bounded most phrase stage columns) where
   cost-within : (from to : ℕ) → Within binary64 (cost phrase from to) (fillerBound most)
@@ -35,30 +67,14 @@ module _ {most : Ranges} {phrase : Phrase} {stage : Stage} {columns : List ℕ} 
       sub-within
       (counted-within (most .frames) (bounded .perFrame) (le-trans (speechIn-le (phrase .mask) from to) (bounded .frames)) (room .frames)
       (omega (arith, room .sums)))
-      (counted-within (most .nuclei) (bounded .insertion) (le-trans inserted (bounded .nuclei)) (room .nuclei) (omega (arith, room .sums)))
+      (counted-within (most .nuclei) (bounded .insertion) (inserted-le bounded from to) (room .nuclei) (omega (arith, room .sums)))
       (omega (arith, room .sums))
-    where
-      inserted : length (heldIn (kept phrase (phrase .nuclei)) from to) ≤ length (phrase .nuclei .anchors)
-      inserted =
-          le-trans (heldIn-le (kept phrase (phrase .nuclei)) from to)
-          (keptIn-le (phrase .mask) (phrase .nuclei .firstRow) (phrase .nuclei .anchors))
-
-  score-within : (unit : ℕ) {anchors : List Anchor} → Each (InRows (stage .firstRow) (stage .firstRow + length (stage .anchors))) anchors
-      → Within binary64 (scoreOf phrase (getD columns unit 0) anchors) (most .score)
-  unfolding scoreOf
-  score-within unit each-none = bounded .unvoiced
-  score-within unit (each-more {x = anchor} (low, high) more) = bounded .scores (anchor .row) unit low high
 
   unit-within : (strictness : Strictness) (unit from to : ℕ) → 1 ≤ most .boundaries → T (admitsUnit strictness (kept phrase stage) from to)
       → Within binary64 (unitValueOf phrase stage (getD columns unit 0) from to) (most .score + most .duration)
-  unfolding unitValueOf admitsUnit
+  unfolding unitValueOf
   unit-within strictness unit from to some ok =
-      let long = and-l (fitsUnit (to - from)) (mayHold strictness (length (heldIn (kept phrase stage) from to))) ok in
-      add-within (score-within unit
-      (held-rows (phrase .mask) (stage .firstRow) (stage .firstRow + length (stage .anchors)) (stage .anchors) from to (omega arith)))
-      (bounded .durations (to - from)
-      (leb→le shortestUnit (to - from) (and-l (leb shortestUnit (to - from)) (leb (to - from) longestUnit) long))
-      (leb→le (to - from) longestUnit (and-r (leb shortestUnit (to - from)) (leb (to - from) longestUnit) long)))
+      add-within (score-within bounded unit from to) (duration-within bounded strictness from to ok)
       (omega (arith, room .sums, mul-le-mul-right (stepBound most) some))
 
   pub phrase-figures : (strictness : Strictness) → Figures (problemOf phrase stage strictness columns) (fillerBound most) (stepBound most)
