@@ -1,0 +1,85 @@
+-- Numbers put to the definitions: an exact sum, how far the f64 sum lies from it, and a path that is returned though another's exact sum is
+-- above its own. Per-frame cost 0.1 is the f64 next to it, 3602879701896397 * 2 ^ -55.
+use Prim.Native.Nat.{ℕ, _+_, _*_, _^_}
+use mathlib.Core.Bool.{true, false, cond}
+use mathlib.Core.List.{List, [], _∷_}
+use mathlib.Core.Path.{_≡_, refl}
+use lib.Dec.{eqb}
+use lib.IntN.{pos, negsuc, negℤ}
+use lib.ListN.{replicate}
+use lib.Ieee.{Float, fin, add, sub, mul, neg, ofInt, lt}
+use Rattle.exact.specs.Scaled.{scaled}
+use Rattle.exact.specs.Apart.{apart, excess}
+use Rattle.phrase.specs.Phrase.{Phrase, spoken}
+use Rattle.paths.specs.declared.passes.Strictness.the-variants.{Strict}
+use Rattle.paths.specs.declared.passes.Pass.the-variants.{NucleiStrict}
+use Rattle.paths.specs.Path.{Path, begin, gap, unit, sum}
+use Rattle.paths.specs.Anchors.{keptIn}
+use Rattle.paths.specs.Units.{admitsUnit}
+use Rattle.paths.specs.StageProblem.{cost, unitValueOf, problemOf}
+use Rattle.paths.specs.Passes.{hasNucleus}
+use Rattle.paths.specs.Demand.{found}
+use Rattle.paths.specs.Search.{chosen}
+use Rattle.distance.specs.ExactSum.{exactSum}
+use Rattle.distance.specs.ExactStage.{exactCost, exactUnit, exactOf}
+
+abbrev nought : Float
+nought = fin false 0 (pos 0)
+
+abbrev tenth : Float
+tenth = fin false 3602879701896397 (negsuc 54)
+
+abbrev minusFour : Float
+minusFour = fin true 1 (pos 2)
+
+-- nuclei and boundaries over frames of speech, by duration, the score of each row, per_frame and insertion_llr
+abbrev phraseBy : ℕ → List ℕ → List ℕ → Float → (ℕ → Float) → Float → Float → Phrase
+phraseBy frames nuclei boundaries duration score perFrame insertion = record {
+  mask = replicate frames 1;
+  nuclei = record { anchors = nuclei; firstRow = 0; boundaries = boundaries; duration = λ length. duration };
+  added = record { anchors = []; firstRow = 2; boundaries = []; duration = λ length. nought };
+  score = λ row column. score row;
+  candidates = [];
+  costs = record { «per_frame» = perFrame; «insertion_llr» = insertion; unvoiced = nought };
+  speech = spoken 0 frames;
+}
+
+-- ---- seven frames of filler at 0.1, and a nucleus at 4
+
+abbrev seven : Phrase
+seven = phraseBy 13 (1 ∷ 7 ∷ []) (3 ∷ 4 ∷ 10 ∷ []) nought (λ row. nought) tenth minusFour
+
+-- frames 0..3 before the start with the nucleus 1, the gap 3..4, the unit 4..10, and 10..13 after the end
+abbrev sevenPath : Path
+sevenPath = unit (gap (begin 0)) 2
+
+-- -(7 * 0.1 + 4), of which nothing is rounded
+seven-exact : exactSum (exactOf seven (seven .nuclei) (0 ∷ [])) sevenPath ≡ negℤ (pos ((7 * 3602879701896397 + 4 * 2 ^ 55) * 2 ^ 1020))
+unfolding exactSum exactCost exactUnit keptIn
+seven-exact = refl
+
+-- 0.1 * 3 is rounded, and so are 4.3, 4.4 and 4.7: together by 27 * 2 ^ -55.
+seven-rounded : sum (problemOf seven (seven .nuclei) Strict (0 ∷ [])) sevenPath ≡ fin true 1322932390540083 (negsuc 47)
+unfolding sum cost unitValueOf keptIn add sub mul neg ofInt
+seven-rounded = refl
+
+seven-apart : apart (scaled (fin true 1322932390540083 (negsuc 47))) (exactSum (exactOf seven (seven .nuclei) (0 ∷ [])) sevenPath) ≡ 27 * 2 ^ 1020
+unfolding scaled exactSum exactCost exactUnit keptIn
+seven-apart = refl
+
+-- ---- two units that last a million below nothing, of which the second scores 2 ^ -35 more
+
+abbrev overtaken : Phrase
+overtaken =
+    phraseBy 12 (3 ∷ 9 ∷ []) (0 ∷ 6 ∷ 12 ∷ []) (fin true 15625 (pos 6)) (λ row. cond (eqb row 0) nought (fin false 1 (negsuc 34))) nought nought
+
+-- As f64 sums they are equal, and of equal ends the lowest boundary wins.
+first-returned : chosen overtaken (0 ∷ []) ≡ found NucleiStrict (unit (begin 0) 1) (fin true 15625 (pos 6))
+unfolding chosen hasNucleus keptIn cost admitsUnit unitValueOf add sub mul neg ofInt lt
+first-returned = refl
+
+-- So the path that is returned has not the largest exact sum: the other is above it by 2 ^ -35, which is less than 2 ^ -20.
+second-above : excess (exactSum (exactOf overtaken (overtaken .nuclei) (0 ∷ [])) (unit (begin 1) 2))
+    (exactSum (exactOf overtaken (overtaken .nuclei) (0 ∷ [])) (unit (begin 0) 1)) ≡ 2 ^ 1040
+unfolding exactSum exactCost exactUnit keptIn
+second-above = refl

@@ -1,0 +1,126 @@
+-- What decoding returns (document 02, Ask 4): for every candidate of every accepted record, the sum shown is near the exact sum of the path
+-- returned, and "no path that the pass admits for the candidate's unit count has an exact sum above that of the returned path by more than
+-- 2^-20".
+use Prim.Native.Nat.{ℕ, _*_, _<_}
+use mathlib.Core.List.{List, [], _++_}
+use mathlib.Core.Option.{none}
+use mathlib.Core.Path.{_≡_, refl, sym, subst, _∙_}
+use lib.Dec.{lit≤}
+use lib.ListN.{length, drop, length-map}
+use lib.Ieee.{Float}
+use Rattle.laws.specs.inner.Each.{Each}
+use Rattle.laws.proofs.Each.{each-map, each-from, each-at}
+use Rattle.limits.specs.Sizes.{entryWords}
+use Rattle.paths.specs.declared.passes.Pass.{Pass}
+use Rattle.paths.specs.declared.passes.Pass.the-variants.{NucleiStrict, CountStrict, CountRelaxed, NucleiRelaxed}
+use Rattle.paths.specs.declared.passes.Strictness.the-variants.{Strict, Relaxed}
+use Rattle.paths.specs.Path.{Path, Admitted}
+use Rattle.paths.specs.Passes.{passStage, passStrictness, passProblem}
+use Rattle.paths.specs.Demand.{Answer, Demanded, a-path, no-path, no-nucleus}
+use Rattle.paths.specs.Search.{chosen}
+use Rattle.record.specs.Layout.{trailerOf, layoutOf, limitsOf}
+use Rattle.record.specs.Meaning.{phraseOf}
+use Rattle.record.specs.Refusals.{refusalOf, refusalWith}
+use Rattle.record.specs.inner.Reading.{candidateOf}
+use Rattle.record.specs.declared.read.Which.the-variants.{Nuclei, Count}
+use Rattle.entries.specs.Entry.{Entry}
+use Rattle.entries.specs.Words.{allWords}
+use Rattle.entries.specs.Ranking.{ranked}
+use Rattle.entries.specs.inner.Placing.{Fit}
+use Rattle.entries.proofs.FullSum.{words-at}
+use Rattle.entries.proofs.Ranks.{each-ranked}
+use Rattle.entries.proofs.RankedLength.{length-ranked}
+use Rattle.decoding.specs.EntryOf.{entryBy, entryOf, entriesOf}
+use Rattle.decoding.specs.Contract.{Meets, Decodes}
+use Rattle.decoding.specs.declared.answer.Decoded.{Decoded}
+use Rattle.decoding.proofs.Bounded.{phrase-fit}
+use Rattle.decoding.proofs.Calls.{own-rules}
+use Rattle.decoding.proofs.Demands.{answered, entries-fit}
+use Rattle.distance.specs.Distance.{sumDigits, pathDigits, ColumnsBelow, NearExact, NearAnswer, near-path, none-near, unvoiced-near, MeetsNear, ReturnsNear}
+use Rattle.distance.proofs.Powers.{near-exact, not-much-above}
+use Rattle.distance.proofs.Editions.{sharp}
+use Rattle.distance.proofs.Records.{SumClose, path-close}
+
+module _ (bytes : List ℕ) (accepted : refusalOf bytes ≡ none) where
+  module _ (columns : List ℕ) (below : ColumnsBelow (layoutOf bytes .scores .count) columns) where
+    -- a pass searches a stage with a strictness
+    pass-close : (pass : Pass) {path : Path} → Admitted (passProblem (phraseOf bytes) pass columns) path
+        → SumClose bytes accepted columns below (passStage (phraseOf bytes) pass) (passStrictness pass) path
+    pass-close NucleiStrict admitted = path-close bytes accepted columns below Nuclei Strict admitted
+    pass-close CountStrict admitted = path-close bytes accepted columns below Count Strict admitted
+    pass-close CountRelaxed admitted = path-close bytes accepted columns below Count Relaxed admitted
+    pass-close NucleiRelaxed admitted = path-close bytes accepted columns below Nuclei Relaxed admitted
+
+    -- every answer that is as demanded
+    pub demanded-near : {answer : Answer} → Demanded (phraseOf bytes) columns answer → NearAnswer (phraseOf bytes) columns answer
+    demanded-near (a-path {pass = pass} {path = path} f) =
+        let close = pass-close pass (f .best .admitted) in
+        let enough = sharp (trailerOf bytes .edition) .enough in
+        near-path
+        (subst (NearExact (phraseOf bytes) (passStage (phraseOf bytes) pass) columns path) (sym (f .summed))
+        (record { isFinite = close .within .real .isFinite; near = near-exact sumDigits (lit≤ tt) close enough }))
+        (λ other admitted counted.
+        not-much-above pathDigits (lit≤ tt) (pass-close pass admitted) close (f .best .largest other admitted counted) enough)
+    demanded-near (no-path nucleus none-admitted) = none-near
+    demanded-near (no-nucleus lacking) = unvoiced-near
+
+  -- whichever of several best paths stands: all that demand 3 leaves open
+  pub met-near : (number : ℕ) → number < length (phraseOf bytes .candidates) → {entry : Entry}
+      → Meets (phraseOf bytes) (candidateOf (phraseOf bytes) number) entry → MeetsNear (phraseOf bytes) (candidateOf (phraseOf bytes) number) entry
+  met-near number inside meets =
+      record {
+        meets = meets;
+        near =
+            demanded-near (candidateOf (phraseOf bytes) number .columns) (phrase-fit bytes accepted .candidates number _ inside .below)
+            (meets .demanded);
+      }
+
+  -- the entry that the contract asks for, for each candidate
+  pub every-candidate : (number : ℕ) → number < length (phraseOf bytes .candidates)
+      → MeetsNear (phraseOf bytes) (candidateOf (phraseOf bytes) number) (entryOf (phraseOf bytes) (candidateOf (phraseOf bytes) number))
+  unfolding entryBy
+  every-candidate number inside =
+      met-near number inside
+      (record {
+        answer = chosen (phraseOf bytes) (candidateOf (phraseOf bytes) number .columns);
+        demanded = answered bytes accepted (phrase-fit bytes accepted .candidates number _ inside);
+        reported = refl;
+      })
+
+  -- ---- at each rank
+
+  record Returned (entry : Entry) : Type 0 where
+    number : ℕ
+    inside : number < length (phraseOf bytes .candidates)
+    near : MeetsNear (phraseOf bytes) (candidateOf (phraseOf bytes) number) entry
+
+  each-returned : Each Returned (ranked (entriesOf (phraseOf bytes)))
+  each-returned =
+      each-ranked Returned
+      (each-map (entryOf (phraseOf bytes))
+      (each-from (record { id = 0; columns = [] }) (phraseOf bytes .candidates)
+      (λ i inside. record { number = i; inside = inside; near = every-candidate i inside })))
+
+  at-rank : (rank : ℕ) → rank < length (phraseOf bytes .candidates) → (rest : List ℕ)
+      → ReturnsNear (limitsOf bytes .units) (phraseOf bytes)
+      (drop (rank * entryWords (limitsOf bytes .units)) (allWords (limitsOf bytes .units) (ranked (entriesOf (phraseOf bytes))) ++ rest))
+  at-rank rank inside rest =
+      let phrase = phraseOf bytes in
+      let most = limitsOf bytes .units in
+      let there : rank < length (ranked (entriesOf phrase)) =
+      subst (λ (n : ℕ). rank < n) (sym (length-ranked (entriesOf phrase) ∙ length-map (phrase .candidates) (entryOf phrase))) inside in
+      let other : Entry = entryOf phrase (candidateOf phrase 0) in
+      let from = words-at most other (each-ranked (Fit most) (entries-fit bytes accepted)) rank there rest in
+      let entry = each-at other each-returned rank there in
+      record { number = entry .number; inside = entry .inside; entry = _; later = from .0; begins = from .1; returned = entry .near }
+
+-- What every decoder that meets the contract leaves in the output of an accepted call: at each rank a candidate's entry, as near as that.
+pub every-entry :
+    {bytes : List ℕ} {best : List Float} {back out : List ℕ} {answer : Decoded} {best′ : List Float} {back′ out′ : List ℕ} →
+    Decodes bytes best back out answer best′ back′ out′ → refusalWith bytes (length best) (length back) (length out) ≡ none →
+    (rank : ℕ) → rank < length (phraseOf bytes .candidates) →
+    ReturnsNear (limitsOf bytes .units) (phraseOf bytes) (drop (rank * entryWords (limitsOf bytes .units)) out′)
+every-entry {bytes} {best} {back} {out} decodes accepted rank inside =
+    subst (λ (words : List ℕ). ReturnsNear (limitsOf bytes .units) (phraseOf bytes) (drop (rank * entryWords (limitsOf bytes .units)) words))
+    (sym (decodes .accepts accepted .words))
+    (at-rank bytes (own-rules bytes (length best) (length back) (length out) accepted) rank inside _)

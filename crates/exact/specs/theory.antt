@@ -1,0 +1,2 @@
+-- What theorems speak of; no contract uses it.
+pub mod Close
