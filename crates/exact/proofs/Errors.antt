@@ -18,7 +18,7 @@ use Rattle.ieee.specs.theory.Rounded.{rounding, Result}
 use Rattle.ieee.proofs.Value.{one-pos, sides, neg-over, neg-under, neg-real, value-over, value-under, whole-mag}
 use Rattle.ieee.proofs.Rounding.{rounding-zero}
 use Rattle.ieee.proofs.Result.{add-result, mul-result}
-use Rattle.ieee.proofs.Magnitude.{weaken, add-within, product-within, neg-within, whole-within}
+use Rattle.ieee.proofs.Magnitude.{weaken, add-within, result-within, neg-within, whole-within}
 use Rattle.exact.specs.Apart.{above}
 use Rattle.exact.specs.Scaled.{scaled}
 use Rattle.exact.specs.theory.Close.{below, halfPlace, Errs, Close}
@@ -130,9 +130,12 @@ loosen {grain} b d h k c =
 room : {a : ℕ} (v : ℕ) → v ≤ prec binary64 → a < 2 ^ v → a ≤ 2 ^ prec binary64
 room v few small = le-trans (le-of-lt small) (pow-mono {i = v} {j = prec binary64} few)
 
+-- what a product is at most, in units
 sizes : {x y : Float} {a b : ℕ} → Within binary64 x a → Within binary64 y b
-    → (over binary64 x + under binary64 x) * (over binary64 y + under binary64 y) ≤ a * one binary64 * (b * one binary64)
-sizes {x} {y} p q = mul-le-mul (omega (arith, sides binary64 x, p .bound)) (omega (arith, sides binary64 y, q .bound))
+    → (over binary64 x + under binary64 x) * (over binary64 y + under binary64 y) ≤ a * b * one binary64 * one binary64
+sizes {x} {y} {a} {b} p q =
+    le-trans (mul-le-mul {n₂ = a * one binary64} {m₂ = b * one binary64} (omega (arith, sides binary64 x, p .bound))
+    (omega (arith, sides binary64 y, q .bound))) (omega arith)
 
 module _ {grain v extra : ℕ} (errs : Errs grain v extra) where
   module _ {x y : Float} {z w : ℤ} {a b e d : ℕ} (p : Close grain x z a e) (q : Close grain y w b d) (small : a + b < 2 ^ v) where
@@ -159,16 +162,18 @@ module _ {grain v extra : ℕ} (errs : Errs grain v extra) where
     sub-close = add-close p (neg-close q) small
 
   -- w is the exact product in parts, of which two make a unit: with the operands in units, twice their product over the units of 1
-  module _ {x y : Float} {a b : ℕ} (p : Within binary64 x a) (q : Within binary64 y b) (small : a * b < 2 ^ v) (w : ℤ)
+  module _ {x y : Float} (p : Real binary64 x) (q : Real binary64 y) (bound : ℕ)
+      (sized : (over binary64 x + under binary64 x) * (over binary64 y + under binary64 y) ≤ bound * one binary64 * one binary64)
+      (small : bound < 2 ^ v) (w : ℤ)
       (whole : above w * one binary64 + 2 * (over binary64 x * under binary64 y + under binary64 x * over binary64 y)
       ≡ 2 * (over binary64 x * over binary64 y + under binary64 x * under binary64 y) + below w * one binary64) where
-    pub mul-close : Close grain (mul binary64 x y) w (a * b) extra
+    pub mul-close : Close grain (mul binary64 x y) w bound extra
     mul-close =
         let one-unit = one-pos binary64 in
-        let within = product-within p q (room v (errs .digits) small) in
-        let near = result-near v one-unit (mul-result (p .real) (q .real)) (within .real .isFinite)
-        (under-power v (a * b) _ _ (one binary64) one-unit small (omega (arith, sizes p q)))
-        (under-power v (a * b) _ _ (one binary64) one-unit small (omega (arith, sizes p q))) in
+        let within = result-within bound one-unit (room v (errs .digits) small) (mul-result p q) (omega (arith, sized)) (omega (arith, sized)) in
+        let near = result-near v one-unit (mul-result p q) (within .real .isFinite)
+        (under-power v bound _ _ (one binary64) one-unit small (omega (arith, sized)))
+        (under-power v bound _ _ (one binary64) one-unit small (omega (arith, sized))) in
         let result = in-units (within .real) in
         let overs = ap (λ (k : ℕ). k * one binary64) (result .over-is) in
         let unders = ap (λ (k : ℕ). k * one binary64) (result .under-is) in
@@ -182,11 +187,11 @@ module _ {grain v extra : ℕ} (errs : Errs grain v extra) where
   -- a figure times a count
   pub times-close : {x : Float} {a : ℕ} → Within binary64 x a → (n : ℕ) → n ≤ 2 ^ prec binary64 → a * n < 2 ^ v
       → Close grain (mul binary64 x (ofInt binary64 (pos n))) (scaled x *ℤ pos n) (a * n) extra
-  times-close {x} p n few-digits small =
+  times-close {x} {a} p n few-digits small =
       let count = whole-within binary64 n few-digits in
       let is = whole-is n few-digits in
       let figure = in-units (p .real) in
-      mul-close p count small (scaled x *ℤ pos n) (omega (
+      mul-close (p .real) (count .real) (a * n) (sizes p count) small (scaled x *ℤ pos n) (omega (
         arith,
         ap (λ (k : ℕ). k * one binary64) (mul-above (scaled x) n ∙ ap (λ (k : ℕ). k * n) (figure .over-is)),
         ap (λ (k : ℕ). k * one binary64) (mul-below (scaled x) n ∙ ap (λ (k : ℕ). k * n) (figure .under-is)),
