@@ -138,8 +138,9 @@ static inline const char *tikuwero_pass_word(uint32_t pass)
  * The sum of an entry is a double. With a path (passes 0 to 3) it is the sum of the whole path, as
  * docs/FORMAT.md has it. Without one (4 and 5) it is the number of units times the unvoiced score,
  * that product rounded to a float and then widened: with 0.1f, 3 units have 0x3fd3333340000000. It
- * is finite, no limit cuts it, and a zero keeps its own sign. Its bits are in two words of the
- * entry, the low half first:
+ * is finite, no limit cuts it, and a zero keeps its own sign. With a path it differs from the sum
+ * without any rounding by at most 2^-21, and no other path of the pass and the unit count is better
+ * without rounding by more than 2^-20. Its bits are in two words of the entry, the low half first:
  *
  *     uint64_t low = entry[TIKUWERO_ENTRY_SUM_LOW], high = entry[TIKUWERO_ENTRY_SUM_HIGH];
  *     uint64_t bits = low | high << 32;
