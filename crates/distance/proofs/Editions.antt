@@ -8,12 +8,12 @@ use Rattle.decoding.specs.theory.Ranges.{rangesOf}
 use Rattle.distance.specs.Distance.{sumDigits}
 use Rattle.distance.specs.theory.Growth.{Growth, valueGrains, sumGrains, Sharp}
 
--- Filler costs at most 2,080,000 and a unit adds at most 2,000,000, both below 2 ^ 21; 32 units and all filler stay below 2 ^ 26, and 63 below
--- 2 ^ 27.
+-- All filler of a path costs at most 2,080,000 and a unit adds at most 2,000,000, both below 2 ^ 21; with 32 units a sum stays below 2 ^ 26, and
+-- with 63 below 2 ^ 27.
 abbrev pub growth : Growth
 growth = record { figures = 21; sums = 5; early = 32 }
 
--- 32 * 2 ^ -28 + 32 * 2 ^ -27 + 195 * 2 ^ -33, of which 4,096 make 2 ^ -21
+-- 3,267 grains of 2 ^ -33, which is 32 * 2 ^ -28 + 32 * 2 ^ -27 + 195 * 2 ^ -33; 4,096 grains make 2 ^ -21
 grains : sumGrains growth (edition1 .boundaries) ≡ 3267
 unfolding sumGrains valueGrains
 grains = refl

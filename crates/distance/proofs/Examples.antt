@@ -1,5 +1,5 @@
 -- Numbers put to the definitions: an exact sum, how far the f64 sum lies from it, and a path that is returned though another's exact sum is
--- above its own. Per-frame cost 0.1 is the f64 next to it, 3602879701896397 * 2 ^ -55.
+-- above its own.
 use Prim.Native.Nat.{ℕ, _+_, _*_, _^_}
 use mathlib.Core.Bool.{true, false, cond}
 use mathlib.Core.List.{List, [], _∷_}
@@ -26,48 +26,49 @@ use Rattle.distance.specs.ExactStage.{exactCost, exactUnit, exactOf}
 abbrev nought : Float
 nought = fin false 0 (pos 0)
 
+-- the f64 nearest to 0.1, 3602879701896397 * 2 ^ -55, and its negative
 abbrev tenth : Float
 tenth = fin false 3602879701896397 (negsuc 54)
 
-abbrev minusFour : Float
-minusFour = fin true 1 (pos 2)
+abbrev minusTenth : Float
+minusTenth = fin true 3602879701896397 (negsuc 54)
 
 -- nuclei and boundaries over frames of speech, by duration, the score of each row, per_frame and insertion_llr
 abbrev phraseBy : ℕ → List ℕ → List ℕ → Float → (ℕ → Float) → Float → Float → Phrase
 phraseBy frames nuclei boundaries duration score perFrame insertion = record {
   mask = replicate frames 1;
   nuclei = record { anchors = nuclei; firstRow = 0; boundaries = boundaries; duration = λ length. duration };
-  added = record { anchors = []; firstRow = 2; boundaries = []; duration = λ length. nought };
+  added = record { anchors = []; firstRow = 4; boundaries = []; duration = λ length. nought };
   score = λ row column. score row;
   candidates = [];
   costs = record { «per_frame» = perFrame; «insertion_llr» = insertion; unvoiced = nought };
   speech = spoken 0 frames;
 }
 
--- ---- seven frames of filler at 0.1, and a nucleus at 4
+-- ---- seven frames and three nuclei of filler, each of which costs 0.1
 
-abbrev seven : Phrase
-seven = phraseBy 13 (1 ∷ 7 ∷ []) (3 ∷ 4 ∷ 10 ∷ []) nought (λ row. nought) tenth minusFour
+abbrev tenths : Phrase
+tenths = phraseBy 13 (0 ∷ 1 ∷ 2 ∷ 7 ∷ []) (3 ∷ 4 ∷ 10 ∷ []) nought (λ row. nought) tenth minusTenth
 
--- frames 0..3 before the start with the nucleus 1, the gap 3..4, the unit 4..10, and 10..13 after the end
-abbrev sevenPath : Path
-sevenPath = unit (gap (begin 0)) 2
+-- frames 0..3 before the start with three nuclei, the gap 3..4, the unit 4..10, and 10..13 after the end
+abbrev tenthsPath : Path
+tenthsPath = unit (gap (begin 0)) 2
 
--- -(7 * 0.1 + 4), of which nothing is rounded
-seven-exact : exactSum (exactOf seven (seven .nuclei) (0 ∷ [])) sevenPath ≡ negℤ (pos ((7 * 3602879701896397 + 4 * 2 ^ 55) * 2 ^ 1020))
+-- ten times the figure, of which nothing is rounded
+tenths-exact : exactSum (exactOf tenths (tenths .nuclei) (0 ∷ [])) tenthsPath ≡ negℤ (pos (10 * 3602879701896397 * 2 ^ 1020))
 unfolding exactSum exactCost exactUnit keptIn
-seven-exact = refl
+tenths-exact = refl
 
--- 0.1 * 3 is rounded, and so are 4.3, 4.4 and 4.7: together by 27 * 2 ^ -55.
-seven-rounded : sum (problemOf seven (seven .nuclei) Strict (0 ∷ [])) sevenPath ≡ fin true 1322932390540083 (negsuc 47)
+-- In f64 0.1 * 3 is rounded up, twice, and the sums back: -1 in all, which is 2 ^ -54 off.
+tenths-rounded : sum (problemOf tenths (tenths .nuclei) Strict (0 ∷ [])) tenthsPath ≡ fin true 1 (pos 0)
 unfolding sum cost unitValueOf keptIn add sub mul neg ofInt
-seven-rounded = refl
+tenths-rounded = refl
 
-seven-apart : apart (scaled (fin true 1322932390540083 (negsuc 47))) (exactSum (exactOf seven (seven .nuclei) (0 ∷ [])) sevenPath) ≡ 27 * 2 ^ 1020
+tenths-apart : apart (scaled (fin true 1 (pos 0))) (exactSum (exactOf tenths (tenths .nuclei) (0 ∷ [])) tenthsPath) ≡ 2 ^ 1021
 unfolding scaled exactSum exactCost exactUnit keptIn
-seven-apart = refl
+tenths-apart = refl
 
--- ---- two units that last a million below nothing, of which the second scores 2 ^ -35 more
+-- ---- two units with the duration entry -1,000,000, of which the second scores 2 ^ -35 more
 
 abbrev overtaken : Phrase
 overtaken =

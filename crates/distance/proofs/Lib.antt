@@ -6,4 +6,5 @@ mod Editions
 pub mod Records
 pub mod Returned
 pub mod Compared
+mod InNumbers
 mod Examples

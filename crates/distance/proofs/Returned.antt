@@ -4,7 +4,7 @@
 use Prim.Native.Nat.{ℕ, _*_, _<_}
 use mathlib.Core.List.{List, [], _++_}
 use mathlib.Core.Option.{none}
-use mathlib.Core.Path.{_≡_, refl, sym, subst, _∙_}
+use mathlib.Core.Path.{_≡_, refl, sym, ap, subst, _∙_}
 use lib.Dec.{lit≤}
 use lib.ListN.{length, drop, length-map}
 use lib.Ieee.{Float}
@@ -24,19 +24,19 @@ use Rattle.record.specs.Refusals.{refusalOf, refusalWith}
 use Rattle.record.specs.inner.Reading.{candidateOf}
 use Rattle.record.specs.declared.read.Which.the-variants.{Nuclei, Count}
 use Rattle.entries.specs.Entry.{Entry}
-use Rattle.entries.specs.Words.{allWords}
+use Rattle.entries.specs.Words.{wordsOf, allWords}
 use Rattle.entries.specs.Ranking.{ranked}
 use Rattle.entries.specs.inner.Placing.{Fit}
 use Rattle.entries.proofs.FullSum.{words-at}
 use Rattle.entries.proofs.Ranks.{each-ranked}
 use Rattle.entries.proofs.RankedLength.{length-ranked}
-use Rattle.decoding.specs.EntryOf.{entryBy, entryOf, entriesOf}
+use Rattle.decoding.specs.EntryOf.{entryOf, entriesOf}
 use Rattle.decoding.specs.Contract.{Meets, Decodes}
 use Rattle.decoding.specs.declared.answer.Decoded.{Decoded}
 use Rattle.decoding.proofs.Bounded.{phrase-fit}
 use Rattle.decoding.proofs.Calls.{own-rules}
 use Rattle.decoding.proofs.Demands.{answered, entries-fit}
-use Rattle.distance.specs.Distance.{sumDigits, pathDigits, ColumnsBelow, NearExact, NearAnswer, near-path, none-near, unvoiced-near, MeetsNear, ReturnsNear}
+use Rattle.distance.specs.Distance.{sumDigits, pathDigits, ColumnsBelow, NearExact, NearAnswer, near-path, none-near, unvoiced-near, ReturnsNear}
 use Rattle.distance.proofs.Powers.{near-exact, not-much-above}
 use Rattle.distance.proofs.Editions.{sharp}
 use Rattle.distance.proofs.Records.{SumClose, path-close}
@@ -51,7 +51,7 @@ module _ (bytes : List ℕ) (accepted : refusalOf bytes ≡ none) where
     pass-close CountRelaxed admitted = path-close bytes accepted columns below Count Relaxed admitted
     pass-close NucleiRelaxed admitted = path-close bytes accepted columns below Nuclei Relaxed admitted
 
-    -- every answer that is as demanded
+    -- every answer that is as demanded, whichever of several best paths it has
     pub demanded-near : {answer : Answer} → Demanded (phraseOf bytes) columns answer → NearAnswer (phraseOf bytes) columns answer
     demanded-near (a-path {pass = pass} {path = path} f) =
         let close = pass-close pass (f .best .admitted) in
@@ -64,42 +64,39 @@ module _ (bytes : List ℕ) (accepted : refusalOf bytes ≡ none) where
     demanded-near (no-path nucleus none-admitted) = none-near
     demanded-near (no-nucleus lacking) = unvoiced-near
 
-  -- whichever of several best paths stands: all that demand 3 leaves open
-  pub met-near : (number : ℕ) → number < length (phraseOf bytes .candidates) → {entry : Entry}
-      → Meets (phraseOf bytes) (candidateOf (phraseOf bytes) number) entry → MeetsNear (phraseOf bytes) (candidateOf (phraseOf bytes) number) entry
-  met-near number inside meets =
-      record {
-        meets = meets;
-        near =
-            demanded-near (candidateOf (phraseOf bytes) number .columns) (phrase-fit bytes accepted .candidates number _ inside .below)
-            (meets .demanded);
-      }
+  -- of a candidate's columns
+  candidate-near : (number : ℕ) → number < length (phraseOf bytes .candidates) → {answer : Answer}
+      → Demanded (phraseOf bytes) (candidateOf (phraseOf bytes) number .columns) answer
+      → NearAnswer (phraseOf bytes) (candidateOf (phraseOf bytes) number .columns) answer
+  candidate-near number inside demanded =
+      demanded-near (candidateOf (phraseOf bytes) number .columns) (phrase-fit bytes accepted .candidates number _ inside .below) demanded
 
-  -- the entry that the contract asks for, for each candidate
-  pub every-candidate : (number : ℕ) → number < length (phraseOf bytes .candidates)
-      → MeetsNear (phraseOf bytes) (candidateOf (phraseOf bytes) number) (entryOf (phraseOf bytes) (candidateOf (phraseOf bytes) number))
-  unfolding entryBy
-  every-candidate number inside =
-      met-near number inside
-      (record {
-        answer = chosen (phraseOf bytes) (candidateOf (phraseOf bytes) number .columns);
-        demanded = answered bytes accepted (phrase-fit bytes accepted .candidates number _ inside);
-        reported = refl;
-      })
+  -- Demand 3 leaves open which of several paths with the largest f64 sum is returned; this holds of each.
+  pub met-near : (number : ℕ) → number < length (phraseOf bytes .candidates) → {entry : Entry}
+      → (meets : Meets (phraseOf bytes) (candidateOf (phraseOf bytes) number) entry)
+      → NearAnswer (phraseOf bytes) (candidateOf (phraseOf bytes) number .columns) (meets .answer)
+  met-near number inside meets = candidate-near number inside (meets .demanded)
+
+  -- and so of the one that the cell rule keeps, for each candidate
+  pub chosen-near : (number : ℕ) → number < length (phraseOf bytes .candidates)
+      → NearAnswer (phraseOf bytes) (candidateOf (phraseOf bytes) number .columns)
+      (chosen (phraseOf bytes) (candidateOf (phraseOf bytes) number .columns))
+  chosen-near number inside =
+      candidate-near number inside (answered bytes accepted (phrase-fit bytes accepted .candidates number _ inside))
 
   -- ---- at each rank
 
-  record Returned (entry : Entry) : Type 0 where
+  record OfCandidate (entry : Entry) : Type 0 where
     number : ℕ
     inside : number < length (phraseOf bytes .candidates)
-    near : MeetsNear (phraseOf bytes) (candidateOf (phraseOf bytes) number) entry
+    same : entry ≡ entryOf (phraseOf bytes) (candidateOf (phraseOf bytes) number)
 
-  each-returned : Each Returned (ranked (entriesOf (phraseOf bytes)))
-  each-returned =
-      each-ranked Returned
+  each-of-candidate : Each OfCandidate (ranked (entriesOf (phraseOf bytes)))
+  each-of-candidate =
+      each-ranked OfCandidate
       (each-map (entryOf (phraseOf bytes))
       (each-from (record { id = 0; columns = [] }) (phraseOf bytes .candidates)
-      (λ i inside. record { number = i; inside = inside; near = every-candidate i inside })))
+      (λ i inside. record { number = i; inside = inside; same = refl })))
 
   at-rank : (rank : ℕ) → rank < length (phraseOf bytes .candidates) → (rest : List ℕ)
       → ReturnsNear (limitsOf bytes .units) (phraseOf bytes)
@@ -111,8 +108,14 @@ module _ (bytes : List ℕ) (accepted : refusalOf bytes ≡ none) where
       subst (λ (n : ℕ). rank < n) (sym (length-ranked (entriesOf phrase) ∙ length-map (phrase .candidates) (entryOf phrase))) inside in
       let other : Entry = entryOf phrase (candidateOf phrase 0) in
       let from = words-at most other (each-ranked (Fit most) (entries-fit bytes accepted)) rank there rest in
-      let entry = each-at other each-returned rank there in
-      record { number = entry .number; inside = entry .inside; entry = _; later = from .0; begins = from .1; returned = entry .near }
+      let entry = each-at other each-of-candidate rank there in
+      record {
+        number = entry .number;
+        inside = entry .inside;
+        later = from .0;
+        begins = from .1 ∙ ap (λ (e : Entry). wordsOf most e ++ from .0) (entry .same);
+        near = chosen-near (entry .number) (entry .inside);
+      }
 
 -- What every decoder that meets the contract leaves in the output of an accepted call: at each rank a candidate's entry, as near as that.
 pub every-entry :

@@ -1,10 +1,10 @@
 -- The exact sum of a path (document 02, Ask 4), beside `value` and `sum` of paths/specs/Path.antt and over the same paths: the same figures
--- as whole numbers, of which nothing is rounded.
+-- as whole numbers, with nothing rounded.
 use Prim.Native.Nat.{ℕ}
 use lib.IntN.{ℤ, _+ℤ_, _-ℤ_}
 use Rattle.paths.specs.Path.{Path, begin, gap, unit, end, count}
 
--- What a stage and a candidate's columns give, as `Problem` has it (paths/specs/Problem.antt).
+-- The four values of a `Problem` (paths/specs/Problem.antt), without its size and without which units it admits.
 pub record ExactFigures : Type 0 where
   pub start : ℕ → ℤ
   pub gapCost : ℕ → ℤ

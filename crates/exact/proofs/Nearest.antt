@@ -12,7 +12,7 @@ use lib.Ieee.Nearest.{closest}
 use lib.Ieee.Order.{drop}
 use Rattle.ieee.specs.theory.Rounded.{rounding}
 
--- a and b, each within c of the other
+-- a and b, at most half of c apart
 pub record Halved (a b c : ℕ) : Type 0 where
   pub high : 2 * a ≤ 2 * b + c
   pub low : 2 * b ≤ 2 * a + c

@@ -38,7 +38,8 @@ scaled-below (inf s) r = absurd (r .isFinite)
 scaled-below (fin false m e) r = below-pos (num (fin false m e) * scale / den (fin false m e))
 scaled-below (fin true m e) r = below-neg (pos (num (fin true m e) * scale / den (fin true m e))) ∙ parts-are r
 
--- An f64's scaled figure is its numerator times the power of two, over its denominator, without a remainder.
+-- The size of an f64's scaled figure is its numerator times the power of two, over its denominator, without a remainder. Its sign is that of
+-- the f64, by the two laws above.
 pub nothing-cut : {x : Float} → Real binary64 x → natAbs (scaled x) * den x ≡ num x * scale
 nothing-cut {x} r =
     let size : natAbs (scaled x) ≡ 2 * mag binary64 x =

@@ -2,7 +2,7 @@
 use Prim.Native.Nat.{ℕ}
 use lib.IntN.{ℤ, pos, negsuc, natAbs, _-ℤ_}
 
--- how far a number is above 0, if it is
+-- how far a number is above 0, and 0 if it is not
 abbrev pub above : ℤ → ℕ
 above (pos n) = n
 above (negsuc n) = 0
@@ -11,6 +11,6 @@ above (negsuc n) = 0
 abbrev pub apart : ℤ → ℤ → ℕ
 apart a b = natAbs (a -ℤ b)
 
--- how far the first is above the second, if it is
+-- how far the first is above the second, and 0 if it is not
 abbrev pub excess : ℤ → ℤ → ℕ
 excess a b = above (a -ℤ b)

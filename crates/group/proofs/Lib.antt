@@ -5,3 +5,4 @@ mod ShutOut
 mod AlikeExamples
 mod FullSums
 mod SampleUnits
+mod SampleDistance

@@ -3,17 +3,21 @@
 //! one a damaged copy as it comes, and three calls of the other entries. After each of these records come two calls for the most units in
 //! it, and after all of them the four calls on each of some phrases in which many units fit. The end was added later, so that what stands
 //! before it stayed as it was: records of phrases whose sums llr does not tell apart, and the sample phrase with outputs from 52 words for
-//! each entry on; and after that rates of every number of frames that has gaps, in several orders, and their refusals on long ascending
-//! lists. On standard error stands what `crates/replay` is to print, and what the records and those rates hold.
+//! each entry on; after that rates of every number of frames that has gaps, in several orders, and their refusals on long ascending
+//! lists; and after those records whose sums are hard to round. On standard error stands what `crates/replay` is to print, and what the
+//! records and those rates hold.
 
 use oracle::arguments::count_and_seed;
+use oracle::bad;
 use oracle::calls::Call;
 use oracle::damage::{damage, lengths};
 use oracle::entry::ENTRY_WORDS;
 use oracle::generate::{alike, many_units, phrase, share_stages, Kind};
+use oracle::hard::hard;
 use oracle::maker::{encode, encode_shared, sample};
 use oracle::most_units::{self, word_pairs};
 use oracle::ours::{Decoded, WORK_CELLS};
+use oracle::phrase::Phrase;
 use oracle::random::Random;
 use oracle::rates::{frames, Order, Sizes, ACCEPTED_DEFAULTS, REFUSED_DEFAULTS};
 use oracle::replay::Sample;
@@ -28,6 +32,10 @@ const LONGEST_COPY: usize = 40_000;
 /// How many phrases there are in which many units fit, and whose sums llr does not tell apart.
 const MANY: usize = 200;
 const ALIKE: usize = 150;
+
+/// How many phrases are drawn whose sums lie far from the exact ones, and whose figures are hard to round.
+const BAD: usize = 40;
+const HARD: usize = 100;
 
 /// The words of an entry before the halves of the sum were added: an output that is lent by them is too short.
 const FORMER_WORDS: usize = 52;
@@ -137,11 +145,24 @@ impl Writer {
         }
     }
 
-    fn alike(&mut self, r: &mut Random) {
-        let p = alike(r);
-        let (record, lent) = (encode(&p), lent(r, ENTRY_WORDS * p.candidates.len()));
+    /// The record of a phrase, for decoding alone.
+    fn decoding(&mut self, r: &mut Random, p: &Phrase) {
+        let (record, lent) = (encode(p), lent(r, ENTRY_WORDS * p.candidates.len()));
         let decoded = wanted::decode(&record, lent.0, lent.1, lent.2);
         self.decoded(&record, lent, &decoded);
+    }
+
+    fn alike(&mut self, r: &mut Random) {
+        let p = alike(r);
+        self.decoding(r, &p);
+    }
+
+    /// The three that were built for the largest distances first.
+    fn hard_to_round(&mut self, r: &mut Random) {
+        let mut phrases = vec![bad::long(), bad::returned(), bad::passed_over()];
+        phrases.extend((0..BAD).map(|_| bad::drawn(r)));
+        phrases.extend((0..HARD).map(|_| hard(r)));
+        phrases.iter().for_each(|p| self.decoding(r, p));
     }
 
     fn outputs(&mut self) {
@@ -239,6 +260,7 @@ fn main() {
     w.orders(&mut lists);
     w.defaults(&mut lists);
     w.long_lists(&mut lists);
+    w.hard_to_round(&mut lists);
     eprint!("{}", w.sample.printed());
     eprintln!("records {}", w.answers);
     eprintln!("calls for the most units {}", w.most_units);

@@ -9,7 +9,7 @@ use Rattle.paths.specs.Problem.{Problem}
 use Rattle.paths.specs.theory.Bounded.{Ranges, fillerBound}
 use Rattle.distance.specs.ExactSum.{ExactFigures}
 
--- Figures are below 2 ^ figures. The value of a path is below 2 ^ (figures + sums) up to boundary `early`, and below twice that from there on.
+-- Figures are below 2 ^ figures. The value of a path is below 2 ^ (figures + sums) up to boundary `early`, and below twice that after it.
 pub record Growth : Type 0 where
   pub figures : ℕ
   pub sums : ℕ

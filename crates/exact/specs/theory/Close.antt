@@ -6,12 +6,11 @@ use Rattle.ieee.specs.inner.Value.{Within}
 use Rattle.exact.specs.Apart.{above}
 use Rattle.exact.specs.Scaled.{scaled}
 
--- how far a number is below 0, if it is
+-- how far a number is below 0, and 0 if it is not
 abbrev pub below : ℤ → ℕ
 below a = above (negℤ a)
 
--- Half the last place of an f64 just below 2 ^ v, in parts: 2 ^ (v - 54), of which 2 ^ 1075 parts make 1. A result below 2 ^ v is rounded
--- by no more.
+-- Half the last place of an f64 just below 2 ^ v: 2 ^ (v - 54), which is 2 ^ (v + 1021) parts. A result below 2 ^ v is rounded by no more.
 unfoldable pub halfPlace : ℕ → ℕ
 halfPlace v = 2 ^ (v + 1021)
 
@@ -20,7 +19,7 @@ pub record Errs (grain v extra : ℕ) : Type 0 where
   pub digits : v ≤ prec binary64
   pub place : halfPlace v ≤ extra * grain
 
--- x is at most `bound` in size, and lies at most `error` grains of so many parts from z
+-- x is at most `bound` in size, and lies at most `error` grains, of `grain` parts each, from z
 pub record Close (grain : ℕ) (x : Float) (z : ℤ) (bound error : ℕ) : Type 0 where
   pub within : Within binary64 x bound
   pub high : above (scaled x) + below z ≤ above z + below (scaled x) + error * grain
