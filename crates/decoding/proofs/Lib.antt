@@ -7,6 +7,7 @@ pub mod Demands
 pub mod Totals
 pub mod Decodes
 pub mod OneOutcome
+pub mod AtRank
 pub mod FullSum
 pub mod Alike
 pub mod Examples

@@ -2,14 +2,12 @@
 -- returned, and "no path that the pass admits for the candidate's unit count has an exact sum above that of the returned path by more than
 -- 2^-20".
 use Prim.Native.Nat.{ℕ, _*_, _<_}
-use mathlib.Core.List.{List, [], _++_}
+use mathlib.Core.List.{List}
 use mathlib.Core.Option.{none}
-use mathlib.Core.Path.{_≡_, refl, sym, ap, subst, _∙_}
+use mathlib.Core.Path.{_≡_, sym, subst}
 use lib.Dec.{lit≤}
-use lib.ListN.{length, drop, length-map}
+use lib.ListN.{length, drop}
 use lib.Ieee.{Float}
-use Rattle.laws.specs.inner.Each.{Each}
-use Rattle.laws.proofs.Each.{each-map, each-from, each-at}
 use Rattle.limits.specs.Sizes.{entryWords}
 use Rattle.paths.specs.declared.passes.Pass.{Pass}
 use Rattle.paths.specs.declared.passes.Pass.the-variants.{NucleiStrict, CountStrict, CountRelaxed, NucleiRelaxed}
@@ -24,18 +22,12 @@ use Rattle.record.specs.Refusals.{refusalOf, refusalWith}
 use Rattle.record.specs.inner.Reading.{candidateOf}
 use Rattle.record.specs.declared.read.Which.the-variants.{Nuclei, Count}
 use Rattle.entries.specs.Entry.{Entry}
-use Rattle.entries.specs.Words.{wordsOf, allWords}
-use Rattle.entries.specs.Ranking.{ranked}
-use Rattle.entries.specs.inner.Placing.{Fit}
-use Rattle.entries.proofs.FullSum.{words-at}
-use Rattle.entries.proofs.Ranks.{each-ranked}
-use Rattle.entries.proofs.RankedLength.{length-ranked}
-use Rattle.decoding.specs.EntryOf.{entryOf, entriesOf}
 use Rattle.decoding.specs.Contract.{Meets, Decodes}
 use Rattle.decoding.specs.declared.answer.Decoded.{Decoded}
 use Rattle.decoding.proofs.Bounded.{phrase-fit}
 use Rattle.decoding.proofs.Calls.{own-rules}
-use Rattle.decoding.proofs.Demands.{answered, entries-fit}
+use Rattle.decoding.proofs.Demands.{answered}
+use Rattle.decoding.proofs.AtRank.{at-rank}
 use Rattle.distance.specs.Distance.{sumDigits, pathDigits, ColumnsBelow, NearExact, NearAnswer, near-path, none-near, unvoiced-near, ReturnsNear}
 use Rattle.distance.proofs.Powers.{near-exact, not-much-above}
 use Rattle.distance.proofs.Editions.{sharp}
@@ -84,39 +76,6 @@ module _ (bytes : List ℕ) (accepted : refusalOf bytes ≡ none) where
   chosen-near number inside =
       candidate-near number inside (answered bytes accepted (phrase-fit bytes accepted .candidates number _ inside))
 
-  -- ---- at each rank
-
-  record OfCandidate (entry : Entry) : Type 0 where
-    number : ℕ
-    inside : number < length (phraseOf bytes .candidates)
-    same : entry ≡ entryOf (phraseOf bytes) (candidateOf (phraseOf bytes) number)
-
-  each-of-candidate : Each OfCandidate (ranked (entriesOf (phraseOf bytes)))
-  each-of-candidate =
-      each-ranked OfCandidate
-      (each-map (entryOf (phraseOf bytes))
-      (each-from (record { id = 0; columns = [] }) (phraseOf bytes .candidates)
-      (λ i inside. record { number = i; inside = inside; same = refl })))
-
-  at-rank : (rank : ℕ) → rank < length (phraseOf bytes .candidates) → (rest : List ℕ)
-      → ReturnsNear (limitsOf bytes .units) (phraseOf bytes)
-      (drop (rank * entryWords (limitsOf bytes .units)) (allWords (limitsOf bytes .units) (ranked (entriesOf (phraseOf bytes))) ++ rest))
-  at-rank rank inside rest =
-      let phrase = phraseOf bytes in
-      let most = limitsOf bytes .units in
-      let there : rank < length (ranked (entriesOf phrase)) =
-      subst (λ (n : ℕ). rank < n) (sym (length-ranked (entriesOf phrase) ∙ length-map (phrase .candidates) (entryOf phrase))) inside in
-      let other : Entry = entryOf phrase (candidateOf phrase 0) in
-      let from = words-at most other (each-ranked (Fit most) (entries-fit bytes accepted)) rank there rest in
-      let entry = each-at other each-of-candidate rank there in
-      record {
-        number = entry .number;
-        inside = entry .inside;
-        later = from .0;
-        begins = from .1 ∙ ap (λ (e : Entry). wordsOf most e ++ from .0) (entry .same);
-        near = chosen-near (entry .number) (entry .inside);
-      }
-
 -- What every decoder that meets the contract leaves in the output of an accepted call: at each rank a candidate's entry, as near as that.
 pub every-entry :
     {bytes : List ℕ} {best : List Float} {back out : List ℕ} {answer : Decoded} {best′ : List Float} {back′ out′ : List ℕ} →
@@ -124,6 +83,11 @@ pub every-entry :
     (rank : ℕ) → rank < length (phraseOf bytes .candidates) →
     ReturnsNear (limitsOf bytes .units) (phraseOf bytes) (drop (rank * entryWords (limitsOf bytes .units)) out′)
 every-entry {bytes} {best} {back} {out} decodes accepted rank inside =
-    subst (λ (words : List ℕ). ReturnsNear (limitsOf bytes .units) (phraseOf bytes) (drop (rank * entryWords (limitsOf bytes .units)) words))
-    (sym (decodes .accepts accepted .words))
-    (at-rank bytes (own-rules bytes (length best) (length back) (length out) accepted) rank inside _)
+    let at = at-rank decodes accepted rank inside in
+    record {
+      number = at .number;
+      inside = at .inside;
+      later = at .later;
+      begins = at .begins;
+      near = chosen-near bytes (own-rules bytes (length best) (length back) (length out) accepted) (at .number) (at .inside);
+    }
