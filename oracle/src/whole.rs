@@ -113,15 +113,7 @@ impl Sub for Whole {
     type Output = Whole;
 
     fn sub(self, other: Whole) -> Whole {
-        let mut rest = Whole::ZERO;
-        let mut borrow = false;
-        for i in 0..LIMBS {
-            let (limb, first) = self.0[i].overflowing_sub(other.0[i]);
-            let (limb, second) = limb.overflowing_sub(u64::from(borrow));
-            rest.0[i] = limb;
-            borrow = first | second;
-        }
-        rest
+        self + -other
     }
 }
 
