@@ -1,5 +1,7 @@
 // Refusals 8, 9 and 10, candidate by candidate, after `check_candidates`.
 
+#![tactic(auto)]
+
 ghost use Rattle.std.specs.Prelude.{false, ◌≡◌, ◌<◌, length};
 ghost use Rattle.record.specs.Inner.Bounds.{CandidatesRead};
 ghost use Rattle.record.specs.Layout.{layout_of};

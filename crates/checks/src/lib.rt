@@ -1,5 +1,7 @@
 // The check of a record: refused by the first rule whose condition holds, or accepted with its layout.
 
+#![tactic(auto)]
+
 ghost use Rattle.std.specs.Prelude.{◌≡◌, ◌++◌, ◌≤◌, length};
 ghost use Rattle.laws.specs.Rules.{first_of};
 ghost use Rattle.limits.specs.Inner.Moderate.{Moderate};

@@ -1,5 +1,7 @@
 // Decoding: from a phrase record to its result words. What it promises is in the crate `decoding`.
 
+#![tactic(auto)]
+
 pub mod decode;
 pub mod entry;
 pub mod lay;

@@ -1,4 +1,6 @@
 // Result entries: their words, and their ranking in the output.
 
+#![tactic(auto)]
+
 pub mod ranking;
 pub mod words;

@@ -4,6 +4,8 @@
 // `stdout` was not written by this program. Its values come from the original functions of duration.rs and evidence.rs,
 // compiled and run on the same cases, and its refusals, which the original has none of, from document 01's conditions.
 
+#![tactic(auto)]
+
 mod cases;
 mod input;
 mod print;

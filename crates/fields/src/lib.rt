@@ -1,5 +1,7 @@
 // The fields of a candidate's entry.
 
+#![tactic(auto)]
+
 ghost use Rattle.std.specs.Prelude.{◌≡◌, ◌+◌, ◌≤◌, ◌<◌, length};
 ghost use Rattle.limits.specs.Sizes.{candidate_bytes};
 ghost use Rattle.record.specs.Inner.Bounds.{CandidatesRead};

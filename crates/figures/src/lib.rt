@@ -1,6 +1,8 @@
 // Refusal 6: every float finite and within its range. The tests are on bits, since a NaN's bits are no float that may be read. A table
 // is walked to its end, whatever is found on the way, so that the walk compiles to vector code.
 
+#![tactic(auto)]
+
 ghost use Rattle.std.specs.Prelude.{◌≡◌, ◌+◌, ◌*◌, ◌≤◌, length};
 ghost use Rattle.ieee.specs.Range.{within};
 ghost use Rattle.record.specs.Inner.Bounds.{Within};

@@ -1,5 +1,7 @@
 // What the entries beside decoding share: lists of frames, spans, and what an entry takes at most.
 
+#![tactic(auto)]
+
 pub mod list;
 pub mod sizes;
 pub mod span;

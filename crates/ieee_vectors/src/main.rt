@@ -1,5 +1,7 @@
 // Runs the conversions and the key of the total order on vectors that Rust made (vectors.rt), and prints how many agree.
 
+#![tactic(auto)]
+
 mod vectors;
 
 ghost use Rattle.std.specs.Prelude.{not, ◌<◌, ◌≤◌, T};

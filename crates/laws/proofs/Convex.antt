@@ -12,9 +12,11 @@ use Rattle.laws.proofs.Range.{past_le}
 use Rattle.laws.proofs.Tests.{by_test, by_choice, same_test}
 
 passes_is : (b : Bool) → T b → b ≡ true
+passes_is false t = elim t [ ]
 passes_is true t = refl
 
 fails_is : (b : Bool) → T (not b) → b ≡ false
+fails_is true t = elim t [ ]
 fails_is false t = refl
 
 module _ (test : ℕ → Bool) where

@@ -1,5 +1,7 @@
 // Decodes the record on standard input, and prints the listing that document 01 shows under "Sample phrase".
 
+#![tactic(auto)]
+
 use io::read_full;
 use libc::STDIN_FILENO;
 use printing::print_listing;

@@ -1,6 +1,8 @@
 // Decodes several records. Standard input holds each behind its length, two bytes, the lower first; their listings are printed one
 // after the other. The file stdout holds what the original prints for those that are accepted.
 
+#![tactic(auto)]
+
 ghost use Rattle.std.specs.Prelude.{◌≤◌, ◌<◌, length};
 
 use io::{large_buffer, read_full};

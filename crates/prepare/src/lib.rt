@@ -1,3 +1,5 @@
 // What is made once for an accepted record and stage, for the search of every candidate.
 
+#![tactic(auto)]
+
 pub mod stage;

@@ -1,5 +1,7 @@
 // The listing of a record, as document 01 shows it under "Sample phrase".
 
+#![tactic(auto)]
+
 mod lines;
 pub mod render;
 

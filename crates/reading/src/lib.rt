@@ -1,3 +1,5 @@
 // Readers of an accepted record.
 
+#![tactic(auto)]
+
 pub mod read;

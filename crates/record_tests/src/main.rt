@@ -6,6 +6,8 @@
 //
 // make_cases.py makes the input, and the file stdout by an implementation of document 01's table of its own.
 
+#![tactic(auto)]
+
 ghost use Rattle.std.specs.Prelude.{◌+◌, ◌≤◌, ◌<◌, length};
 
 use checks::{check, check_areas};

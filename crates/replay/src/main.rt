@@ -6,6 +6,8 @@
 // Printed are the first cases that differ, if any, and for each entry how many calls were replayed, how many of them are refused by
 // the sample, and how many agree: in what is returned, in every word that is written, and in every lent cell that is not.
 
+#![tactic(auto)]
+
 mod calls;
 mod counting;
 mod decoding;

@@ -1,6 +1,8 @@
 // Unit spans: the span of one frame of a stage, those of all its frames where its lists ascend, and the entry `tbu_spans`, which checks
 // its own input and answers with an enum.
 
+#![tactic(auto)]
+
 pub mod edges;
 pub mod spans;
 pub mod walk;

@@ -1,5 +1,7 @@
 // The tables of a stage that the search reads, made once for a record and stage, after `Stage` and `Filler` of closed.rs.
 
+#![tactic(auto)]
+
 pub mod anchors;
 pub mod clear;
 mod counts;

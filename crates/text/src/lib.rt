@@ -1,5 +1,7 @@
 // Texts and numbers, written into a slice of bytes from a place on. Each function answers the place after what it wrote.
 
+#![tactic(auto)]
+
 ghost use Rattle.std.specs.Prelude.{◌+◌, ◌≤◌, length};
 ghost use Rattle.text.specs.Ascii.{decimal as Ascii·decimal, hexadecimal};
 ghost use Rattle.text.specs.Inner.Puts.{Puts};

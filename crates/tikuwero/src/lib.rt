@@ -1,6 +1,8 @@
 // The C interface: the entries under their C names. A slice is a pointer and a length; a refusal is returned as minus its number.
 // include/tikuwero.h says what a C caller has to know.
 
+#![tactic(auto)]
+
 mod words;
 
 ghost use Rattle.std.specs.Prelude.{◌≡◌};

@@ -1,6 +1,8 @@
 // Refusal 5: the mask, the four frame lists and the speech edges. A section is walked to its end, whatever is found on the way, so
 // that the walk compiles to vector code.
 
+#![tactic(auto)]
+
 ghost use Rattle.std.specs.Prelude.{◌≡◌, ◌+◌, ◌*◌, ◌≤◌, length};
 ghost use Rattle.record.specs.Inner.Bounds.{Within};
 ghost use Rattle.record.specs.Format.{costs_bytes};
