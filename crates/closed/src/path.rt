@@ -14,14 +14,14 @@ use rows::clear::clear;
 use rows::end::best_end;
 use rows::trace::{Units, trace};
 
-#[derive(Drop)]
+#[derive(Clone, Copy)]
 pub enum Found {
     Sum(f64),
     NoPath,
 }
 
 // The sum of the path chosen and the boundaries of its units, or that there is none.
-#[derive(Drop)]
+#[derive(Clone, Copy)]
 pub struct Path {
     pub found: Found,
     pub units: Units,

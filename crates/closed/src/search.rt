@@ -18,7 +18,7 @@ use record::layout::Layout;
 use rows::trace::Units;
 
 // The pass that finds a path, with its sum; or that there is none, and whether a nucleus is in the mask.
-#[derive(Drop)]
+#[derive(Clone, Copy)]
 pub enum Answer {
     Found(Pass, f64),
     None,
@@ -26,14 +26,14 @@ pub enum Answer {
 }
 
 // The answer, and the boundaries of the path's units in the stage of its pass.
-#[derive(Drop)]
+#[derive(Clone, Copy)]
 pub struct Searched {
     pub answer: Answer,
     pub units: Units,
 }
 
 // What decides which passes there are: speech by the edges, a nucleus in the mask, an added stage.
-#[derive(Drop)]
+#[derive(Clone, Copy)]
 pub struct Runs {
     pub spoken: bool,
     pub voiced: bool,
@@ -87,7 +87,7 @@ fn boundary_count(at: Layout, pass: Pass) -> usize
 }
 
 // What is asked: a candidate of the record, with the record's layout and cost figures.
-#[derive(Drop)]
+#[derive(Clone, Copy)]
 pub struct Task {
     pub at: Layout,
     pub costs: Costs,

@@ -34,7 +34,7 @@ use reading::read;
 use record::layout::Layout;
 
 // An entry, not yet at its rank. Its units are the first of `units`.
-#[derive(Drop)]
+#[derive(Clone, Copy)]
 pub struct Scored {
     pub head: EntryHead,
     pub units: Reported,

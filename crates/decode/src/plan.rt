@@ -17,7 +17,7 @@ use record::layout::Layout;
 use record::read::{Edges, Which};
 use stages::anchors::has_nucleus;
 
-#[derive(Drop)]
+#[derive(Clone, Copy)]
 pub struct Plan {
     pub costs: Costs,
     pub runs: Runs,

@@ -12,14 +12,14 @@ use rows::trace::Units;
 use stages::lists::{MIDDLE, ROW, SPAN_END, SPAN_START};
 
 // The units of an entry in path order. Its unit count says how many are reported; nobody reads what stands behind them.
-#[derive(Drop)]
+#[derive(Clone, Copy)]
 pub struct Reported {
     pub starts: [u32; MOST_UNITS],
     pub ends: [u32; MOST_UNITS],
     pub rows: [u32; MOST_UNITS],
 }
 
-#[derive(Drop)]
+#[derive(Clone, Copy)]
 pub struct PlacedUnit {
     pub start: u32,
     pub end: u32,

@@ -3,7 +3,7 @@
 use record::refusal::Refusal;
 
 // The number of entries written, or a refusal; `outcome` of specs/Contract.antt gives document 01's numbers.
-#[derive(Drop)]
+#[derive(Clone, Copy)]
 pub enum Decoded {
     Entries(u32),
     Refused(Refusal),

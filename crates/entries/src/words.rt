@@ -14,7 +14,7 @@ use limits::edition::{HEAD_WORDS, UNIT_WORDS};
 const HALF: u64 = 0x1_0000_0000;
 
 // An entry without its units. `total` is the score before it is clamped and narrowed to the llr.
-#[derive(Drop)]
+#[derive(Clone, Copy)]
 pub struct EntryHead {
     pub id: u32,
     pub llr: f32,

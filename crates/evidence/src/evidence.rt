@@ -8,7 +8,7 @@ use frames::list::Nearest;
 use frames::sizes::MOST_BYTES;
 use limits::common::LAST_FRAME;
 
-#[derive(Drop)]
+#[derive(Clone, Copy)]
 pub enum TailAnswer {
     Creaky(bool),
     Size,

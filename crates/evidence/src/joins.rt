@@ -7,7 +7,7 @@ use crate::masks;
 use frames::sizes::MOST_BYTES;
 use limits::common::LAST_FRAME;
 
-#[derive(Drop)]
+#[derive(Clone, Copy)]
 pub enum JoinsAnswer {
     Joined { start: bool, end: bool },
     Size,

@@ -4,7 +4,7 @@ ghost use Rattle.std.specs.Prelude.{◌≤◌, length};
 ghost use Rattle.io.specs.Counts.{IsPrefixLen};
 
 // A number, and where the text goes on.
-#[derive(Drop)]
+#[derive(Clone, Copy)]
 pub(crate) struct Read {
     pub(crate) value: u32,
     pub(crate) next: usize,
@@ -69,7 +69,7 @@ pub(crate) fn number(text: &[u8], at: usize) -> Read {
 }
 
 // How many cells are filled, and where the text goes on.
-#[derive(Drop)]
+#[derive(Clone, Copy)]
 pub(crate) struct Filled {
     pub(crate) len: usize,
     pub(crate) next: usize,

@@ -27,7 +27,7 @@ module _ (limit : ℕ) (xs : List ℕ) (i : ℕ) where
   any_end h = ap (any_above limit) (drop_of_length-le xs h)
 
 -- no number above the limit: none of the members is
-pub within : {limit : ℕ} {xs : List ℕ} {x : ℕ} → any_above limit xs ≡ false → Memᴰ x xs → x ≤ limit
+pub within : {limit : ℕ} {x : ℕ} {xs : List ℕ} → any_above limit xs ≡ false → Memᴰ x xs → x ≤ limit
 unfolding any_above
 within {limit} e (Memᴰ.head {x = y} {xs = ys} same) =
     let low = ltb-false limit y (neither_left (ltb limit y) (any_above limit ys) e) in

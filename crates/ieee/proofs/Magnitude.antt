@@ -104,6 +104,10 @@ mul_within {f} p n h l = product_within p (whole_within f n l) h
 -- what lies between two finite values is finite
 pub between_finite : (lo hi x : Float) → T (finite lo) → T (finite hi) → T (le lo x) → T (le x hi) → T (finite x)
 unfolding le
+between_finite nan hi _ p q h k = elim p [ ]
+between_finite (inf _) hi _ p q h k = elim p [ ]
+between_finite (fin s m e) nan _ p q h k = elim q [ ]
+between_finite (fin s m e) (inf _) _ p q h k = elim q [ ]
 between_finite (fin s m e) (fin t n d) nan p q h k = h
 between_finite (fin s m e) (fin t n d) (inf true) p q h k = h
 between_finite (fin s m e) (fin t n d) (inf false) p q h k = k

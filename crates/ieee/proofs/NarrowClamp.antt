@@ -70,10 +70,14 @@ pub clamped_number : (v : Float) → T (not (is_nan (clamped v)))
 clamped_number v = number (clamped v) (clamped_small v)
   where
     number : (v : Float) → Small v → T (not (is_nan v))
+    number nan h = elim h [ ]
+    number (inf _) h = elim h [ ]
     number (fin s m e) h = unfold is_nan in tt
 
 narrowed_within : (v : Float) → Small v → Within binary32 (narrowed v) 1000000
 unfolding narrowed
+narrowed_within nan h = elim h [ ]
+narrowed_within (inf _) h = elim h [ ]
 narrowed_within (fin s m e) h = round_within binary32 s (m * up e) (down e) 1000000 (down_pos e) (lit≤ tt) h
 
 pub clamped_log_within : (v : Float) → Within binary32 (clamped_log v) 1000000

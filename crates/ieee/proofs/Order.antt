@@ -1,6 +1,7 @@
 -- IEEE 754's order of real values is the order of natural numbers: x ≤ y where over x - under x ≤ over y - under y, written
 -- without subtraction. The two zeros are equal by themselves. From that the laws that a search for a largest value needs.
 -- Assumes nothing.
+use lib.Ieee.{inf, nan}
 use Rattle.std.proofs.Common.{◌≡◌, ℕ, ◌+◌, ◌*◌, ◌<◌, ◌≤◌, Bool, true, false, cond, not, T, eqb, ◌↔◌, ℤ, sym, ap, ◌∙◌, subst, inl, inr, le_of_eq, le_of_lt, mul_comm, lt_of_mul-lt-mul_right, eq-or-lt_of_le, mul-lt-mul_of_pos_right, mul-pos, arith, eqb→eq, ltb→lt, lt→ltb, T_not}
 use mathlib.Core.Logic.Iff
 use native.Mathlib.Nat.{eq_of_mul-eq-mul_right}
@@ -90,10 +91,18 @@ module _ (f : Format) (s : Bool) (m : ℕ) (e : ℤ) (t : Bool) (n : ℕ) (d : �
 
 lt_at : (f : Format) (x y : Float) → T (finite x) → T (finite y) → Real f x → Real f y
     → T (lt x y) ↔ (over f x + under f y < over f y + under f x)
+lt_at f nan _ p q x y = elim p [ ]
+lt_at f (inf _) _ p q x y = elim p [ ]
+lt_at f (fin s m e) nan p q x y = elim q [ ]
+lt_at f (fin s m e) (inf _) p q x y = elim q [ ]
 lt_at f (fin s m e) (fin t n d) p q x y = lt_fin f s m e t n d x y
 
 eq_at : (f : Format) (x y : Float) → T (finite x) → T (finite y) → Real f x → Real f y
     → T (eq x y) ↔ (over f x + under f y ≡ over f y + under f x)
+eq_at f nan _ p q x y = elim p [ ]
+eq_at f (inf _) _ p q x y = elim p [ ]
+eq_at f (fin s m e) nan p q x y = elim q [ ]
+eq_at f (fin s m e) (inf _) p q x y = elim q [ ]
 eq_at f (fin s m e) (fin t n d) p q x y = eq_fin f s m e t n d x y
 
 pub lt_iff : {f : Format} {x y : Float} → Real f x → Real f y → T (lt x y) ↔ (over f x + under f y < over f y + under f x)

@@ -1,5 +1,6 @@
 -- The results of `add`, `sub` and `mul` at real values: the exact result, rounded once. Here the signs are gone through, once; every law
 -- over these results is one of natural numbers. Assumes nothing.
+use lib.Ieee.{inf, nan}
 use Rattle.std.proofs.Common.{◌≡◌, ℕ, ◌+◌, ◌-◌, ◌*◌, ◌<◌, ◌≤◌, Bool, true, false, cond, not, T, ltb, sym, ap, ◌∙◌, subst, le_of_lt, mul-le-mul_right, zero-lt-suc, mul-pos, le_of_mul-le-mul_right, arith, ltb→lt, nltb→le}
 use lib.Ieee.{Float, fin, Format, up, down, unlike, round, neg, sum, add, sub, mul}
 use lib.Ieee.Fits.{round-fits}
@@ -84,6 +85,10 @@ module _ (f : Format) (a b d u v : ℕ) (D : 0 < d) (p : u * d ≡ a * one f) (q
 add_at : (f : Format) (x y : Float) → T (finite x) → T (finite y) → Real f x → Real f y
     → Result f (add f x y) (over f x + over f y) (under f x + under f y) 1
 unfolding add over under
+add_at f nan _ i j x y = elim i [ ]
+add_at f (inf _) _ i j x y = elim i [ ]
+add_at f (fin s m e) nan i j x y = elim j [ ]
+add_at f (fin s m e) (inf _) i j x y = elim j [ ]
 add_at f (fin s m e) (fin t n d) i j x y =
     sum_result f (m * up e * down d) (n * up d * down e) (down e * down d) (mag f (fin s m e)) (mag f (fin t n d))
     (mul-pos (den_pos (fin s m e)) (den_pos (fin t n d))) (omega (arith, ap (λ (z : ℕ). z * down d) (exact x))) (omega (arith, ap (λ (z : ℕ). z * down e) (exact y))) s t
@@ -111,6 +116,10 @@ mul_signs f true true u v a d D e = round_result f false (0 * 0 + u * v) (0 * v 
 mul_at : (f : Format) (x y : Float) → T (finite x) → T (finite y) → Real f x → Real f y
     → Result f (mul f x y) (over f x * over f y + under f x * under f y) (over f x * under f y + under f x * over f y) (one f)
 unfolding mul over under
+mul_at f nan _ i j x y = elim i [ ]
+mul_at f (inf _) _ i j x y = elim i [ ]
+mul_at f (fin s m e) nan i j x y = elim j [ ]
+mul_at f (fin s m e) (inf _) i j x y = elim j [ ]
 mul_at f (fin s m e) (fin t n d) i j x y =
     mul_signs f s t (mag f (fin s m e)) (mag f (fin t n d)) (m * up e * (n * up d)) (down e * down d)
     (mul-pos (den_pos (fin s m e)) (den_pos (fin t n d)))

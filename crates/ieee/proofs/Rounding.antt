@@ -1,5 +1,6 @@
 -- `round` in units of the format: its result is `rounding` with the sign it is given. `rounding` depends on the fraction alone, keeps
 -- whole numbers as long as the format counts them without a gap, and keeps the order. Assumes nothing.
+use lib.Ieee.{nan}
 use Rattle.std.proofs.Common.{◌≡◌, ℕ, suc, ◌-◌, ◌*◌, ◌^◌, ◌<◌, ◌≤◌, Bool, true, false, cond, not, T, ltb, sym, ap, ◌∙◌, subst, zero-le, mul-le-mul_right, zero-lt-suc, mul_assoc, mul-pos, arith, ltb→lt, pow_pos}
 use lib.Ieee.{Float, inf, fin, Format, prec, low, odd, units, round, le, is_nan}
 use lib.Ieee.Fits.{round-fits, round_is}
@@ -96,6 +97,8 @@ rounding_zero f c C = rounding_same f 0 c (0 * one f) 1 C (zero-lt-suc 0) (omega
 -- what lies below a finite value and is not negative is finite
 below_finite : (b : Bool) (x y : Float) → T (finite y) → T (le (cond b x (inf false)) y) → T b
 unfolding le
+below_finite false x nan t h = elim t [ ]
+below_finite false x (inf _) t h = elim t [ ]
 below_finite true x y t h = tt
 below_finite false x (fin s m e) t h = absurd h
 

@@ -74,6 +74,8 @@ held_down f s m e t =
 
 held_exact : (f : Format) (x : Float) → T (finite x) → T (fits f x) → mag f x * den x ≡ num x * one f
 unfolding mag one
+held_exact f nan t h = elim t [ ]
+held_exact f (inf _) t h = elim t [ ]
 held_exact f (fin s zero e) t h = ap (λ (z : ℕ). z * down e) (mag_of f (fin s zero e) 0 none) ∙ sym none
   where
     none : zero * up e * 2 ^ low f ≡ 0 * down e
@@ -90,6 +92,8 @@ exact {f} {x} r = held_exact f x r.is_finite r.is_held
 
 held_small : (f : Format) (x : Float) → T (finite x) → T (fits f x) → num x < 2 ^ suc (emax f) * den x
 unfolding fits
+held_small f nan t h = elim t [ ]
+held_small f (inf _) t h = elim t [ ]
 held_small f (fin s zero e) t h = omega (arith, mul-pos (pow_pos (suc (emax f))) (den_pos (fin s zero e)))
 held_small f (fin s (suc m) e) t h =
     ltb→lt (suc m * up e) (2 ^ suc (emax f) * down e)
@@ -111,6 +115,8 @@ real_small {f} {x} r =
 
 pub finite_number : (x : Float) → T (finite x) → T (not (is_nan x))
 unfolding is_nan
+finite_number nan t = elim t [ ]
+finite_number (inf _) t = elim t [ ]
 finite_number (fin s m e) t = tt
 
 pub real_comparable : {f : Format} {x : Float} → Real f x → Comparable f x
@@ -138,6 +144,8 @@ pub neg_real : {f : Format} {x : Float} → Real f x → Real f (neg x)
 neg_real {f} {x} r = record { is_finite = finite_neg x r.is_finite; is_held = neg-fits f x r.is_held }
   where
     finite_neg : (x : Float) → T (finite x) → T (finite (neg x))
+    finite_neg nan t = elim t [ ]
+    finite_neg (inf _) t = elim t [ ]
     finite_neg (fin s m e) t = unfold neg in t
 
 pub neg_over : (f : Format) (x : Float) → over f (neg x) ≡ under f x

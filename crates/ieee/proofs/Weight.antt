@@ -24,6 +24,7 @@ below_next h (suc x) t l =
 
 from_next : (h x y u : ℕ) → x < y → h * 2 ^ x ≤ weigh h y u
 unfolding weigh
+from_next h x zero u l = elim l [ ]
 from_next h x (suc y) u l = le_trans (mul-le-mul_left h (pow_mono (le_of_suc-le-suc l))) (mul-le-mul_right (2 ^ y) (omega arith))
 
 div_le : (h r k : ℕ) → 0 < h → r ≤ k → r / h ≤ k / h

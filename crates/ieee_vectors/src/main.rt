@@ -9,7 +9,7 @@ ghost use Rattle.std.specs.Float.Ieee.{is_nan};
 
 use libc::STDOUT_FILENO;
 
-#[derive(Drop)]
+#[derive(Clone, Copy)]
 enum What {
     Narrow,
     Clamp,
@@ -69,7 +69,7 @@ fn agrees(what: What, given: u64, expected: u64) -> bool {
     }
 }
 
-#[derive(Drop)]
+#[derive(Clone, Copy)]
 struct Tally {
     right: u64,
     of: u64,

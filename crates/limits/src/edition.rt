@@ -5,7 +5,7 @@ ghost use Rattle.limits.specs.Edition.{numbers_of, edition1};
 ghost use Rattle.limits.specs.Inner.Moderate.{Moderate};
 ghost use Rattle.limits.specs.Sizes.{candidate_bytes, entry_words, work_cells};
 
-#[derive(Drop)]
+#[derive(Clone, Copy)]
 pub struct Limits {
     pub edition: usize,
     pub frames: usize,

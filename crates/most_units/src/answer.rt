@@ -3,7 +3,7 @@
 use record::refusal::Refusal;
 
 // That there is no path, a unit count, or a refusal; `number_for` of specs/Answers.antt gives each its number.
-#[derive(Drop)]
+#[derive(Clone, Copy)]
 pub enum MostUnits {
     NoPath,
     Units(u32),

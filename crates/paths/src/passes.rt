@@ -4,14 +4,14 @@ ghost use Rattle.std.specs.Prelude.{◌≡◌};
 ghost use Rattle.paths.specs.Passes.{pass_number};
 
 // What a unit must hold: exactly one anchor, or none or one.
-#[derive(Drop)]
+#[derive(Clone, Copy)]
 pub enum Strictness {
     Strict,
     Relaxed,
 }
 
 // The passes, by stage (the nuclei's, or the added one, which the Rust calls the count stage) and strictness.
-#[derive(Drop)]
+#[derive(Clone, Copy)]
 pub enum Pass {
     NucleiStrict,
     CountStrict,

@@ -10,7 +10,7 @@ ghost use Rattle.phrase.specs.Inner.Unanchored.{unanchored_units};
 use ieee::convert::widen;
 
 // The figures travel together, by value (document 01, "How a path is scored").
-#[derive(Drop)]
+#[derive(Clone, Copy)]
 pub struct Costs {
     pub per_frame: f64,
     pub insertion_llr: f64,

@@ -21,6 +21,7 @@ none_between limit w (g ∷ gs) h =
     one_more (ltb g (w + 1)) (ltb g limit) (λ t. lt→ltb g (w + 1) (low (ltb g limit) t h)) (none_between limit w gs (omega arith))
   where
     low : (b : Bool) → T b → max (cond b g 0) (largest_below limit gs) ≤ w → g < w + 1
+    low false t le = elim t [ ]
     low true t le = omega arith
 
 -- where some gap is below the limit, the largest is below it and a gap

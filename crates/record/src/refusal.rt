@@ -6,7 +6,7 @@ ghost use Rattle.record.specs.Refusals.{number_of};
 use crate::layout::Layout;
 
 // Document 01's words, in its order; `number_of` of specs/Refusals.antt gives their numbers.
-#[derive(Drop)]
+#[derive(Clone, Copy)]
 pub enum Refusal {
     Stub,
     Edition,
@@ -21,7 +21,7 @@ pub enum Refusal {
     Desk,
 }
 
-#[derive(Drop)]
+#[derive(Clone, Copy)]
 pub enum Checked {
     Refused(Refusal),
     Accepted(Layout),

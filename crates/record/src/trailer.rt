@@ -1,13 +1,13 @@
 // What the trailer of a record says: the last 64 bytes, sixteen u32.
 
 // What the trailer says of a section: its count and its back pointer.
-#[derive(Drop)]
+#[derive(Clone, Copy)]
 pub struct Mark {
     pub count: usize,
     pub back: usize,
 }
 
-#[derive(Drop)]
+#[derive(Clone, Copy)]
 pub struct Trailer {
     pub edition: usize,
     pub mask: Mark,

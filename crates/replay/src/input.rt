@@ -8,7 +8,7 @@ use record::bytes::u32_at;
 
 // The number of the refusal, or 0; what is returned where there is none; and how many words the call leaves in lent memory, which are
 // the first of the case.
-#[derive(Drop)]
+#[derive(Clone, Copy)]
 pub(crate) struct Answer {
     pub(crate) refusal: u32,
     pub(crate) returned: u32,

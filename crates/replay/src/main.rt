@@ -33,7 +33,7 @@ const MOST_CASES: u32 = 100000;
 const MOST_PRINTED: u32 = 5;
 
 // A case: its entry, 0 after the last one; how many bytes its arguments and its words have; and what is to be answered.
-#[derive(Drop)]
+#[derive(Clone, Copy)]
 struct Case {
     entry: u32,
     len: usize,

@@ -5,7 +5,7 @@ ghost use Rattle.paths.specs.Problem.{Problem};
 ghost use Rattle.rows.specs.Ends.{or_end, StopsOf, EndOf};
 
 // A path's sum, and the boundary where it ends.
-#[derive(Drop)]
+#[derive(Clone, Copy)]
 pub struct End {
     pub sum: f64,
     pub boundary: usize,

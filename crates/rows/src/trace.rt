@@ -9,7 +9,7 @@ ghost use Rattle.rows.specs.Traced.{mark_in, Traceable, UnitsAre};
 use limits::capacity::MOST_UNITS;
 
 // The boundaries where each unit of a path begins and ends, in path order; entries from the unit count on are 0.
-#[derive(Drop)]
+#[derive(Clone, Copy)]
 pub struct Units {
     pub first: [u32; MOST_UNITS],
     pub last: [u32; MOST_UNITS],

@@ -5,7 +5,7 @@ ghost use Rattle.rows.specs.Ways.{way_value, way_mark, Markable, or_later};
 
 // "A way into a cell (units so far, boundary) is a start, a gap or a unit, each with its own f64 value" (document 01);
 // a unit comes with the boundary that it starts from.
-#[derive(Drop)]
+#[derive(Clone, Copy)]
 pub enum Way {
     Start(f64),
     Gap(f64),

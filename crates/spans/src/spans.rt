@@ -10,7 +10,7 @@ use frames::list::Nearest;
 use frames::sizes::MOST_FRAMES;
 use limits::common::LAST_FRAME;
 
-#[derive(Drop)]
+#[derive(Clone, Copy)]
 pub enum SpansAnswer {
     Spans(usize),
     Size,

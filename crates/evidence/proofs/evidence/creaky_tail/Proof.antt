@@ -10,9 +10,9 @@ use Rattle.frames.specs.declared.list.Nearest.TheVariants.{None, At}
 use Rattle.evidence.proofs.evidence.creaky_tail.Statement.{statement}
 use Rattle.evidence.proofs.evidence.creaky_tail.Tie as tie
 
-returns : tie.Need-returns
+returns : tie.Need-returns-then-pitched-vowel_speech
 unfolding creaky_tail_of
-returns c = refuses _ _ c.if1.true
+returns c = refuses _ _ c.if-pitched-vowel_speech.true
 
 unfit-requires : tie.Need-unfit-requires
 unfit-requires c κs = search rules
@@ -23,60 +23,60 @@ unfit-requires-2 c κs = search rules
 beyond-requires : tie.Need-beyond-requires
 beyond-requires c κs = search rules
 
-returns-2 : tie.Need-returns-2
+returns-2 : tie.Need-returns-then-unfit-start
 unfolding creaky_tail_of
 returns-2 c =
-    leaves _ _ _ c.before.before.before.before.if1.false
-    (refuses _ _ (rw (c.before.before.before.unfit.ensures, c.before.before.unfit2.ensures, c.before.beyond.ensures) at c.if2.true))
+    leaves _ _ _ c.if-pitched-vowel_speech.false
+    (refuses _ _ (rw (c.unfit.ensures, c.unfit-2.ensures, c.beyond.ensures) at c.if-unfit-start.true))
 
 -- what is asked, and the answer where no test refuses
-abbrev entry : tie.Else2 → tie.Start
+abbrev entry : tie.Else-unfit-start → tie.Start
 entry c = c.before.before.before.before.before.before.before
 
-abbrev asked : tie.Else2 → Outcome Bool
+abbrev asked : tie.Else-unfit-start → Outcome Bool
 asked c =
     let args = (entry c).args in
-    creaky_tail_of args.start args.end args.next args.pitched.now args.vowel-speech.now
+    creaky_tail_of args.start args.end args.next args.pitched.now args.vowel_speech.now
 
-abbrev answer : tie.Else2 → Nearest → Bool
-answer c last = tail_after last (entry c).args.next (entry c).args.pitched.now (entry c).args.vowel-speech.now
+abbrev answer : tie.Else-unfit-start → Nearest → Bool
+answer c last = tail_after last (entry c).args.next (entry c).args.pitched.now (entry c).args.vowel_speech.now
 
-accepts : (c : tie.Else2) (last : Nearest)
+accepts : (c : tie.Else-unfit-start) (last : Nearest)
     → last ≡ last_pitched (entry c).args.pitched.now (entry c).args.start (entry c).args.end
     → accepted (answer c last) ≡ asked c
 unfolding creaky_tail_of
 accepts c last e =
-    let fit = rw (c.before.before.before.unfit.ensures, c.before.before.unfit2.ensures, c.before.beyond.ensures) at c.if2.false in
-    leaves _ _ _ c.before.before.before.before.if1.false (leaves _ _ _ fit (answers (ap (answer c) e)))
+    let fit = rw (c.unfit.ensures, c.unfit-2.ensures, c.beyond.ensures) at c.if-unfit-start.false in
+    leaves _ _ _ c.if-pitched-vowel_speech.false (leaves _ _ _ fit (answers (ap (answer c) e)))
 
-last-pitched-requires : tie.Need-last-pitched-requires
-last-pitched-requires c κs = search rules
+last_pitched-requires : tie.Need-last_pitched-requires
+last_pitched-requires c κs = search rules
 
-enum_told : tie.Need-enum-told
+enum_told : tie.Need-enum_told-1
 enum_told c = search rules
 
-enum-known-last : tie.Need-enum-known-last
-enum-known-last c = search rules
+enum_known-last : tie.Need-enum_known-last
+enum_known-last c = search rules
 
-cast-tail-from : tie.Need-overflow-cast-tail-from
-cast-tail-from c = search rules
+cast-tail_from : tie.Need-overflow_cast-last
+cast-tail_from c = search rules
 
-add-tail-from : tie.Need-overflow-add-tail-from
-add-tail-from c = search rules
+add-tail_from : tie.Need-overflow_add-last
+add-tail_from c = search rules
 
-tail-from-requires : tie.Need-tail-from-requires
-tail-from-requires c κs = search rules
+tail_from-requires : tie.Need-tail_from-requires
+tail_from-requires c κs = search rules
 
-returns-3 : tie.Need-returns-3
-returns-3 c = accepts c.before.before.before None (sym c.enum_told.given.1 ∙ c.before.before.last-pitched.ensures)
+returns-3 : tie.Need-returns-in-None
+returns-3 c = accepts c.before.before None (sym c.in-None.is ∙ c.last_pitched.ensures)
 
-returns-4 : tie.Need-returns-4
+returns-4 : tie.Need-returns-in-At
 returns-4 c =
-    ap accepted c.Tail-from.ensures
-    ∙ accepts c.before.before.before.before.before (At _) (sym c.before.before.last.given.1 ∙ c.before.before.before.before.last-pitched.ensures)
+    ap accepted c.tail_from.ensures
+    ∙ accepts c.before.before.before (At _) (sym c.in-At.is ∙ c.last_pitched.ensures)
 
-pub creaky-tail-spec : {M : Type 1} → statement M
-creaky-tail-spec =
+pub creaky_tail_spec : {M : Type 1} → statement M
+creaky_tail_spec =
     tie.close
     (tie.spec
     returns
@@ -84,11 +84,11 @@ creaky-tail-spec =
     unfit-requires-2
     beyond-requires
     returns-2
-    last-pitched-requires
+    last_pitched-requires
     enum_told
-    enum-known-last
-    cast-tail-from
-    add-tail-from
-    tail-from-requires
+    enum_known-last
+    cast-tail_from
+    add-tail_from
+    tail_from-requires
     returns-3
     returns-4)

@@ -12,7 +12,7 @@ marked-requires-2 : tie.Need-marked-requires-2
 marked-requires-2 c κs = search rules
 
 returns : tie.Need-returns
-returns c = ap₂ (λ (p v : Bool). not p && v) c.before.marked.ensures c.marked2.ensures
+returns c = ap₂ (λ (p v : Bool). not p && v) c.marked.ensures c.marked-2.ensures
 
-pub in-tail-spec : {M : Type 1} → statement M
-in-tail-spec = tie.close (tie.spec marked-requires marked-requires-2 returns)
+pub in_tail_spec : {M : Type 1} → statement M
+in_tail_spec = tie.close (tie.spec marked-requires marked-requires-2 returns)

@@ -8,42 +8,42 @@ use Rattle.evidence.proofs.Tail.{last_here, last_before_law, last_none}
 use Rattle.evidence.proofs.evidence.last_pitched.Statement.{statement}
 use Rattle.evidence.proofs.evidence.last_pitched.Tie as tie
 
-abbrev invariant-loop : tie.invariant-loop
+abbrev invariant-loop : tie.invariant-loop-i
 invariant-loop pitched start end i₀ i = (i ≤ end) × (last_pitched pitched start end ≡ last_pitched pitched start i)
 
-abbrev decreases-loop : tie.decreases-loop
+abbrev decreases-loop : tie.decreases-loop-i
 decreases-loop pitched start end i₀ i = i
 
-loop-holds : tie.Need-loop-init invariant-loop decreases-loop
+loop-holds : tie.Need-loop-i-init invariant-loop decreases-loop
 loop-holds c = (omega arith, refl)
 
-sub-i : tie.Need-overflow-sub-i invariant-loop decreases-loop
+sub-i : tie.Need-overflow_sub-i invariant-loop decreases-loop
 sub-i c = omega arith
 
-cast-marked : tie.Need-overflow-cast-marked invariant-loop decreases-loop
+cast-marked : tie.Need-overflow_cast-i invariant-loop decreases-loop
 cast-marked c = omega arith
 
 marked-requires : tie.Need-marked-requires invariant-loop decreases-loop
 marked-requires c κs = search rules
 
-returns : tie.Need-returns invariant-loop decreases-loop
+returns : tie.Need-returns-then-marked invariant-loop decreases-loop
 returns c =
-    sym (c.before.before.before.loop.invariant.1 ∙ last_here _ _ _ c.before.before.loop-test.true (sym c.before.marked.ensures ∙ c.if1.true))
+    sym (c.loop-i.invariant.1 ∙ last_here _ _ _ c.loop-i-test.true (sym c.marked.ensures ∙ c.if-marked.true))
 
-loop-less : tie.Need-loop-smaller invariant-loop decreases-loop
+loop-less : tie.Need-loop-i-smaller invariant-loop decreases-loop
 loop-less c = omega arith
 
-loop-again : tie.Need-loop-preserved invariant-loop decreases-loop
+loop-again : tie.Need-loop-i-preserved invariant-loop decreases-loop
 loop-again c = (
   omega arith,
-  c.before.before.before.loop.invariant.1 ∙ last_before_law _ _ _ c.before.before.loop-test.true (sym c.before.marked.ensures ∙ c.if1.false),
+  c.loop-i.invariant.1 ∙ last_before_law _ _ _ c.loop-i-test.true (sym c.marked.ensures ∙ c.if-marked.false),
 )
 
-returns-2 : tie.Need-returns-2 invariant-loop decreases-loop
-returns-2 c = sym (c.before.loop.invariant.1 ∙ last_none _ _ _ c.loop-test.false)
+returns-2 : tie.Need-returns invariant-loop decreases-loop
+returns-2 c = sym (c.loop-i.invariant.1 ∙ last_none _ _ _ c.loop-i-test.false)
 
-pub last-pitched-spec : {M : Type 1} → statement M
-last-pitched-spec =
+pub last_pitched_spec : {M : Type 1} → statement M
+last_pitched_spec =
     tie.close
     (tie.spec
     invariant-loop

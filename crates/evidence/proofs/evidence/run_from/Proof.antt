@@ -9,54 +9,54 @@ use Rattle.evidence.proofs.Tail.{run_on, run_ends, run_none, run_whole, run_long
 use Rattle.evidence.proofs.evidence.run_from.Statement.{statement}
 use Rattle.evidence.proofs.evidence.run_from.Tie as tie
 
-abbrev invariant-loop : tie.invariant-loop
-invariant-loop pitched vowel-speech first stop i₀ i =
-    (first ≤ i) × (first + run_from pitched vowel-speech first (stop - first) ≡ i + run_from pitched vowel-speech i (stop - i))
+abbrev invariant-loop : tie.invariant-loop-i
+invariant-loop pitched vowel_speech first stop i₀ i =
+    (first ≤ i) × (first + run_from pitched vowel_speech first (stop - first) ≡ i + run_from pitched vowel_speech i (stop - i))
 
-abbrev decreases-loop : tie.decreases-loop
-decreases-loop pitched vowel-speech first stop i₀ i = stop - i
+abbrev decreases-loop : tie.decreases-loop-i
+decreases-loop pitched vowel_speech first stop i₀ i = stop - i
 
-loop-holds : tie.Need-loop-init invariant-loop decreases-loop
+loop-holds : tie.Need-loop-i-init invariant-loop decreases-loop
 loop-holds c = (omega arith, refl)
 
-in-tail-requires : tie.Need-in-tail-requires invariant-loop decreases-loop
-in-tail-requires c κs = search rules
+in_tail-requires : tie.Need-in_tail-requires invariant-loop decreases-loop
+in_tail-requires c κs = search rules
 
-sub_result : tie.Need-overflow-sub-result invariant-loop decreases-loop
+sub_result : tie.Need-overflow_sub-result invariant-loop decreases-loop
 sub_result c = omega arith
 
-returns : tie.Need-returns invariant-loop decreases-loop
+returns : tie.Need-returns-then-not-in_tail invariant-loop decreases-loop
 returns c =
-    run_whole _ _ _ _ c.before.before.before.loop.invariant.1
-    (run_ends _ _ _ _ c.before.before.loop-test.true (sym c.before.in_Tail.ensures ∙ not-true _ c.if1.true))
+    run_whole _ _ _ _ c.loop-i.invariant.1
+    (run_ends _ _ _ _ c.loop-i-test.true (sym c.in_tail.ensures ∙ c.if-not-in_tail.true))
 
-add-i : tie.Need-overflow-add-i invariant-loop decreases-loop
+add-i : tie.Need-overflow_add-i invariant-loop decreases-loop
 add-i c = omega arith
 
-loop-less : tie.Need-loop-smaller invariant-loop decreases-loop
+loop-less : tie.Need-loop-i-smaller invariant-loop decreases-loop
 loop-less c = omega arith
 
-loop-again : tie.Need-loop-preserved invariant-loop decreases-loop
+loop-again : tie.Need-loop-i-preserved invariant-loop decreases-loop
 loop-again c = (
   omega arith,
-  run_longer _ _ _ _ _ c.before.before.before.loop.invariant.1
-      (run_on _ _ _ _ c.before.before.loop-test.true (sym c.before.in_Tail.ensures ∙ not-false _ c.if1.false)),
+  run_longer _ _ _ _ _ c.loop-i.invariant.1
+      (run_on _ _ _ _ c.loop-i-test.true (sym c.in_tail.ensures ∙ c.if-not-in_tail.false)),
 )
 
-sub-result-2 : tie.Need-overflow-sub-result-2 invariant-loop decreases-loop
+sub-result-2 : tie.Need-overflow_sub-result-2 invariant-loop decreases-loop
 sub-result-2 c = omega arith
 
-returns-2 : tie.Need-returns-2 invariant-loop decreases-loop
-returns-2 c = run_whole _ _ _ _ c.before.loop.invariant.1 (run_none _ _ _ _ c.loop-test.false)
+returns-2 : tie.Need-returns invariant-loop decreases-loop
+returns-2 c = run_whole _ _ _ _ c.loop-i.invariant.1 (run_none _ _ _ _ c.loop-i-test.false)
 
-pub run-from-spec : {M : Type 1} → statement M
-run-from-spec =
+pub run_from_spec : {M : Type 1} → statement M
+run_from_spec =
     tie.close
     (tie.spec
     invariant-loop
     decreases-loop
     loop-holds
-    in-tail-requires
+    in_tail-requires
     sub_result
     returns
     add-i

@@ -4,23 +4,23 @@ use native.Mathlib.Omega.{arith}
 use Rattle.evidence.proofs.evidence.stop_of.Statement.{statement}
 use Rattle.evidence.proofs.evidence.stop_of.Tie as tie
 
-enum_told : tie.Need-enum-told
+enum_told : tie.Need-enum_told-1
 enum_told c = search rules
 
-enum-known-next : tie.Need-enum-known-next
-enum-known-next c = search rules
+enum_known-next : tie.Need-enum_known-next
+enum_known-next c = search rules
 
-cast_f : tie.Need-overflow-cast-f
+cast_f : tie.Need-overflow_cast-f
 cast_f c = search rules
 
-returns : tie.Need-returns
-returns c = rw c.enum_told.given.1 (omega arith)
+returns : tie.Need-returns-in-None
+returns c = rw c.in-None.is (omega arith)
 
-returns-2 : tie.Need-returns-2
-returns-2 c = rw c.before.before.next.given.1 (omega arith)
+returns-2 : tie.Need-returns-then-f-len
+returns-2 c = rw c.in-At.is (omega arith)
 
-returns-3 : tie.Need-returns-3
-returns-3 c = rw c.before.before.next.given.1 (omega arith)
+returns-3 : tie.Need-returns-else-f-len
+returns-3 c = rw c.in-At.is (omega arith)
 
-pub stop-of-spec : {M : Type 1} → statement M
-stop-of-spec = tie.close (tie.spec enum_told enum-known-next cast_f returns returns-2 returns-3)
+pub stop_of_spec : {M : Type 1} → statement M
+stop_of_spec = tie.close (tie.spec enum_told enum_known-next cast_f returns returns-2 returns-3)

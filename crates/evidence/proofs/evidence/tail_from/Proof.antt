@@ -7,16 +7,16 @@ use Rattle.evidence.proofs.Tail.{run_le}
 use Rattle.evidence.proofs.evidence.tail_from.Statement.{statement}
 use Rattle.evidence.proofs.evidence.tail_from.Tie as tie
 
-stop-of-requires : tie.Need-stop-of-requires
-stop-of-requires c κs = search rules
+stop_of-requires : tie.Need-stop_of-stop-requires
+stop_of-requires c κs = search rules
 
-run-from-requires : tie.Need-run-from-requires
-run-from-requires c κs = search rules
+run_from-requires : tie.Need-run_from-run-requires
+run_from-requires c κs = search rules
 
-add-after : tie.Need-overflow-add-after
+add-after : tie.Need-overflow_add-after
 add-after c =
-    let within : c.run-from.result ≤ c.before.stop-of.result - c.before.before.before.before.args.first =
-    rw c.run-from.ensures (run_le _ _ _ _) in
+    let within : c.run_from-run.result ≤ c.stop_of-stop.result - c.args.first =
+    rw c.run_from-run.ensures (run_le _ _ _ _) in
     omega arith
 
 exists-requires : tie.Need-exists-requires
@@ -27,9 +27,9 @@ marked-requires c κs = search rules
 
 returns : tie.Need-returns
 unfolding tail_from
-returns c = rw (c.marked.ensures, c.before.exists.ensures, c.before.before.run-from.ensures, c.before.before.before.stop-of.ensures)
+returns c = rw (c.marked.ensures, c.exists.ensures, c.run_from-run.ensures, c.stop_of-stop.ensures)
 
-pub tail-from-spec : {M : Type 1} → statement M
-tail-from-spec =
+pub tail_from_spec : {M : Type 1} → statement M
+tail_from_spec =
     tie.close
-    (tie.spec stop-of-requires run-from-requires add-after exists-requires marked-requires returns)
+    (tie.spec stop_of-requires run_from-requires add-after exists-requires marked-requires returns)

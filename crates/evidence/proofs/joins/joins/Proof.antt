@@ -10,9 +10,9 @@ use Rattle.evidence.proofs.joins.joins.Tie as tie
 edges : Bool → Bool → Edges
 edges s e = record { start = s; end = e }
 
-returns : tie.Need-returns
+returns : tie.Need-returns-then-voice-pitched
 unfolding joins_of
-returns c = refuses _ _ c.if1.true
+returns c = refuses _ _ c.if-voice-pitched.true
 
 unfit-requires : tie.Need-unfit-requires
 unfit-requires c κs = search rules
@@ -20,10 +20,10 @@ unfit-requires c κs = search rules
 unfit-requires-2 : tie.Need-unfit-requires-2
 unfit-requires-2 c κs = search rules
 
-returns-2 : tie.Need-returns-2
+returns-2 : tie.Need-returns-then-unfit-start
 unfolding joins_of
 returns-2 c =
-    leaves _ _ _ c.before.before.before.if1.false (refuses _ _ (rw (c.before.before.unfit.ensures, c.before.unfit2.ensures) at c.if2.true))
+    leaves _ _ _ c.if-voice-pitched.false (refuses _ _ (rw (c.unfit.ensures, c.unfit-2.ensures) at c.if-unfit-start.true))
 
 joined-requires : tie.Need-joined-requires
 joined-requires c κs = search rules
@@ -31,14 +31,14 @@ joined-requires c κs = search rules
 joined-requires-2 : tie.Need-joined-requires-2
 joined-requires-2 c κs = search rules
 
-returns-3 : tie.Need-returns-3
+returns-3 : tie.Need-returns
 unfolding joins_of edges
 returns-3 c =
-    let fit = rw (c.before.before.before.before.unfit.ensures, c.before.before.before.unfit2.ensures) at c.before.before.if2.false in
-    leaves _ _ _ c.before.before.before.before.before.if1.false (leaves _ _ _ fit (answers (ap₂ edges c.before.joined.ensures c.joined2.ensures)))
+    let fit = rw (c.unfit.ensures, c.unfit-2.ensures) at c.if-unfit-start.false in
+    leaves _ _ _ c.if-voice-pitched.false (leaves _ _ _ fit (answers (ap₂ edges c.joined.ensures c.joined-2.ensures)))
 
-pub joins-spec : {M : Type 1} → statement M
-joins-spec =
+pub joins_spec : {M : Type 1} → statement M
+joins_spec =
     tie.close
     (tie.spec
     returns

@@ -31,42 +31,42 @@ unfolding all_marked
 no-frame mask first zero h = refl
 no-frame mask first (suc n) h = absurd (not-suc-le-zero h)
 
-abbrev invariant-loop : tie.invariant-loop
+abbrev invariant-loop : tie.invariant-loop-i
 invariant-loop mask first count i₀ i = (i ≤ count) × (all_marked mask first count ≡ all_marked mask first i)
 
-abbrev decreases-loop : tie.decreases-loop
+abbrev decreases-loop : tie.decreases-loop-i
 decreases-loop mask first count i₀ i = i
 
-loop-holds : tie.Need-loop-init invariant-loop decreases-loop
+loop-holds : tie.Need-loop-i-init invariant-loop decreases-loop
 loop-holds c = (omega arith, refl)
 
-sub-i : tie.Need-overflow-sub-i invariant-loop decreases-loop
+sub-i : tie.Need-overflow_sub-i invariant-loop decreases-loop
 sub-i c = omega arith
 
-add-marked : tie.Need-overflow-add-marked invariant-loop decreases-loop
+add-marked : tie.Need-overflow_add-first invariant-loop decreases-loop
 add-marked c = omega arith
 
 marked-requires : tie.Need-marked-requires invariant-loop decreases-loop
 marked-requires c κs = search rules
 
-returns : tie.Need-returns invariant-loop decreases-loop
+returns : tie.Need-returns-then-not-marked invariant-loop decreases-loop
 returns c =
-    let bare = sym c.before.marked.ensures ∙ not-true _ c.if1.true in
-    sym (c.before.before.before.loop.invariant.1 ∙ unmarked _ _ _ c.before.before.loop-test.true bare)
+    let bare = sym c.marked.ensures ∙ c.if-not-marked.true in
+    sym (c.loop-i.invariant.1 ∙ unmarked _ _ _ c.loop-i-test.true bare)
 
-loop-less : tie.Need-loop-smaller invariant-loop decreases-loop
+loop-less : tie.Need-loop-i-smaller invariant-loop decreases-loop
 loop-less c = omega arith
 
-loop-again : tie.Need-loop-preserved invariant-loop decreases-loop
+loop-again : tie.Need-loop-i-preserved invariant-loop decreases-loop
 loop-again c =
-    let mark = sym c.before.marked.ensures ∙ not-false _ c.if1.false in
-    (omega arith, c.before.before.before.loop.invariant.1 ∙ still_marked _ _ _ c.before.before.loop-test.true mark)
+    let mark = sym c.marked.ensures ∙ c.if-not-marked.false in
+    (omega arith, c.loop-i.invariant.1 ∙ still_marked _ _ _ c.loop-i-test.true mark)
 
-returns-2 : tie.Need-returns-2 invariant-loop decreases-loop
-returns-2 c = sym (c.before.loop.invariant.1 ∙ no-frame _ _ _ c.loop-test.false)
+returns-2 : tie.Need-returns invariant-loop decreases-loop
+returns-2 c = sym (c.loop-i.invariant.1 ∙ no-frame _ _ _ c.loop-i-test.false)
 
-pub all-marked-spec : {M : Type 1} → statement M
-all-marked-spec =
+pub all_marked_spec : {M : Type 1} → statement M
+all_marked_spec =
     tie.close
     (tie.spec
     invariant-loop

@@ -7,14 +7,14 @@ use lib.ListN.{get_or-eq_default}
 use Rattle.evidence.proofs.masks.marked.Statement.{statement}
 use Rattle.evidence.proofs.masks.marked.Tie as tie
 
-shared-slice-read-result : tie.Need-shared-slice-read-result
-shared-slice-read-result c = search rules
+shared_slice_read-result : tie.Need-bounds-mask-frame
+shared_slice_read-result c = search rules
 
-returns : tie.Need-returns
+returns : tie.Need-returns-then-frame-mask
 returns c = search rules
 
-returns-2 : tie.Need-returns-2
-returns-2 c = sym (ap (λ (b : ℕ). eqb b 1) (get_or-eq_default c.before.args.mask.now 0 c.if1.false))
+returns-2 : tie.Need-returns-else-frame-mask
+returns-2 c = sym (ap (λ (b : ℕ). eqb b 1) (get_or-eq_default c.args.mask.now 0 c.if-frame-mask.false))
 
-pub marked-spec : {M : Type 1} → statement M
-marked-spec = tie.close (tie.spec shared-slice-read-result returns returns-2)
+pub marked_spec : {M : Type 1} → statement M
+marked_spec = tie.close (tie.spec shared_slice_read-result returns returns-2)

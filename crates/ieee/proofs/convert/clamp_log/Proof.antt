@@ -11,17 +11,17 @@ clamp-requires : tie.Need-clamp-requires
 clamp-requires c κs = tt
 
 narrow-requires : tie.Need-narrow-requires
-narrow-requires c κs = subst (λ (x : Float). T (not (is_nan x))) (sym c.clamp.ensures) (clamped_number c.before.args.v)
+narrow-requires c κs = subst (λ (x : Float). T (not (is_nan x))) (sym c.clamp.ensures) (clamped_number c.args.v)
 
 returns : tie.Need-returns
 unfolding clamped_log
 returns c =
-    let v = c.before.before.args.v in
-    let value : c.narrow.result ≡ clamped_log v = c.narrow.ensures.value ∙ ap narrowed c.before.clamp.ensures in
+    let v = c.args.v in
+    let value : c.narrow.result ≡ clamped_log v = c.narrow.ensures.value ∙ ap narrowed c.clamp.ensures in
     record {
       value = value;
       within = subst (λ (x : Float). Within binary32 x 1000000) (sym value) (clamped_log_within v);
     }
 
-pub clamp-log-spec : {M : Type 1} → statement M
-clamp-log-spec = tie.close (tie.spec clamp-requires narrow-requires returns)
+pub clamp_log_spec : {M : Type 1} → statement M
+clamp_log_spec = tie.close (tie.spec clamp-requires narrow-requires returns)

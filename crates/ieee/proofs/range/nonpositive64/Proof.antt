@@ -7,5 +7,5 @@ use Rattle.ieee.proofs.range.nonpositive64.Tie as tie
 returns : tie.Need-returns
 returns c = nonpositive_test binary64 c.args.limit c.requires c.args.bits
 
-pub nonpositive64-spec : {M : Type 1} → statement M
-nonpositive64-spec = tie.close (tie.spec returns)
+pub nonpositive64_spec : {M : Type 1} → statement M
+nonpositive64_spec = tie.close (tie.spec returns)

@@ -7,5 +7,5 @@ use Rattle.ieee.proofs.range.within32.Tie as tie
 returns : tie.Need-returns
 returns c = within_test binary32 c.args.limit c.requires c.args.bits
 
-pub within32-spec : {M : Type 1} → statement M
-within32-spec = tie.close (tie.spec returns)
+pub within32_spec : {M : Type 1} → statement M
+within32_spec = tie.close (tie.spec returns)

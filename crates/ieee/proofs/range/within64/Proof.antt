@@ -7,5 +7,5 @@ use Rattle.ieee.proofs.range.within64.Tie as tie
 returns : tie.Need-returns
 returns c = within_test binary64 c.args.limit c.requires c.args.bits
 
-pub within64-spec : {M : Type 1} → statement M
-within64-spec = tie.close (tie.spec returns)
+pub within64_spec : {M : Type 1} → statement M
+within64_spec = tie.close (tie.spec returns)

@@ -8,24 +8,24 @@ use Rattle.rate.proofs.NextSmaller.{same_before, smaller_before}
 use Rattle.rate.proofs.gaps.gap_before.Statement.{statement}
 use Rattle.rate.proofs.gaps.gap_before.Tie as tie
 
-gaps-below-requires : tie.Need-gaps-below-requires
-gaps-below-requires c κs = search rules
+gaps_below-requires : tie.Need-gaps_below-requires
+gaps_below-requires c κs = search rules
 
-largest-below-requires : tie.Need-largest-below-requires
-largest-below-requires c κs = search rules
+largest_below-requires : tie.Need-largest_below-requires
+largest_below-requires c κs = search rules
 
-returns : tie.Need-returns
+returns : tie.Need-returns-then-gaps_below-place
 returns c =
     let start = c.before.before.before in
-    let few = subst (λ (n : ℕ). n < start.args.place) c.before.gaps-below.ensures c.if1.true in
+    let few = subst (λ (n : ℕ). n < start.args.place) c.gaps_below.ensures c.if-gaps_below-place.true in
     same_before (gaps start.args.ascending.now) _ _ start.requires.1 start.requires.2.stands few
 
-returns-2 : tie.Need-returns-2
+returns-2 : tie.Need-returns-else-gaps_below-place
 returns-2 c =
     let start = c.before.before.before.before in
     let gs = gaps start.args.ascending.now in
-    let all = subst (λ (n : ℕ). start.args.place ≤ n) c.before.before.gaps-below.ensures c.before.if1.false in
-    subst (FoundAt gs _) (sym c.largest-below.ensures) (smaller_before gs _ _ start.requires.1 start.requires.2.stands all)
+    let all = subst (λ (n : ℕ). start.args.place ≤ n) c.gaps_below.ensures c.if-gaps_below-place.false in
+    subst (FoundAt gs _) (sym c.largest_below.ensures) (smaller_before gs _ _ start.requires.1 start.requires.2.stands all)
 
-pub gap-before-spec : {M : Type 1} → statement M
-gap-before-spec = tie.close (tie.spec gaps-below-requires largest-below-requires returns returns-2)
+pub gap_before_spec : {M : Type 1} → statement M
+gap_before_spec = tie.close (tie.spec gaps_below-requires largest_below-requires returns returns-2)

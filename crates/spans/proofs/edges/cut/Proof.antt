@@ -3,13 +3,13 @@ use native.Mathlib.Omega.{arith}
 use Rattle.spans.proofs.edges.cut.Statement.{statement}
 use Rattle.spans.proofs.edges.cut.Tie as tie
 
-sub-apart : tie.Need-overflow-sub-apart
+sub-apart : tie.Need-overflow_sub-apart
 sub-apart c = omega arith
 
-add_result : tie.Need-overflow-add-result
+add_result : tie.Need-overflow_add-result
 add_result c = omega arith
 
-add-result-2 : tie.Need-overflow-add-result-2
+add-result-2 : tie.Need-overflow_add-result-2
 add-result-2 c = omega arith
 
 returns : tie.Need-returns

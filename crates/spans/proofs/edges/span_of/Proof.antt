@@ -7,18 +7,18 @@ use Rattle.frames.specs.declared.span.Span.{Span}
 use Rattle.spans.proofs.edges.span_of.Statement.{statement}
 use Rattle.spans.proofs.edges.span_of.Tie as tie
 
-span-start-requires : tie.Need-span-start-requires
-span-start-requires c κs = search rules
+span_start-requires : tie.Need-span_start-requires
+span_start-requires c κs = search rules
 
-span-end-requires : tie.Need-span-end-requires
-span-end-requires c κs = search rules
+span_end-requires : tie.Need-span_end-requires
+span_end-requires c κs = search rules
 
 span : ℕ → ℕ → Span
 span s e = record { start = s; end = e }
 
 returns : tie.Need-returns
 unfolding span_of span
-returns c = ap₂ span c.before.span-start.ensures c.span-end.ensures
+returns c = ap₂ span c.span_start.ensures c.span_end.ensures
 
-pub span-of-spec : {M : Type 1} → statement M
-span-of-spec = tie.close (tie.spec span-start-requires span-end-requires returns)
+pub span_of_spec : {M : Type 1} → statement M
+span_of_spec = tie.close (tie.spec span_start-requires span_end-requires returns)

@@ -4,40 +4,40 @@ use borrow.Author.Rules.{rules}
 use Rattle.spans.proofs.edges.uncut_end.Statement.{statement}
 use Rattle.spans.proofs.edges.uncut_end.Tie as tie
 
-add-lowest-from : tie.Need-overflow-add-lowest-from
-add-lowest-from c = search rules
+add-lowest_from : tie.Need-overflow_add-frame
+add-lowest_from c = search rules
 
-lowest-from-requires : tie.Need-lowest-from-requires
-lowest-from-requires c κs = search rules
+lowest_from-requires : tie.Need-lowest_from-requires
+lowest_from-requires c κs = search rules
 
-enum-known-b : tie.Need-enum-known-b
-enum-known-b c = search rules
+enum_known-b : tie.Need-enum_known-b
+enum_known-b c = search rules
 
-enum_told : tie.Need-enum-told
+enum_told : tie.Need-enum_told-1
 enum_told c = search rules
 
-add-if1 : tie.Need-overflow-add-if1
+add-if1 : tie.Need-overflow_add-frame-in-None
 add-if1 c = search rules
 
-add_result : tie.Need-overflow-add-result
+add_result : tie.Need-overflow_add-result
 add_result c = search rules
 
-returns : tie.Need-returns
-returns c = rw (← c.before.before.before.lowest-from.ensures, c.before.b.given.1)
+returns : tie.Need-returns-in-At
+returns c = rw (← c.lowest_from.ensures, c.in-At.is)
 
-returns-2 : tie.Need-returns-2
-returns-2 c = rw (← c.before.before.before.lowest-from.ensures, c.before.enum_told.given.1) (omega arith)
+returns-2 : tie.Need-returns-then-frame-hi_edge
+returns-2 c = rw (← c.lowest_from.ensures, c.in-None.is) (omega arith)
 
-returns-3 : tie.Need-returns-3
-returns-3 c = rw (← c.before.before.before.lowest-from.ensures, c.before.enum_told.given.1) (omega arith)
+returns-3 : tie.Need-returns-else-frame-hi_edge
+returns-3 c = rw (← c.lowest_from.ensures, c.in-None.is) (omega arith)
 
-pub uncut-end-spec : {M : Type 1} → statement M
-uncut-end-spec =
+pub uncut_end_spec : {M : Type 1} → statement M
+uncut_end_spec =
     tie.close
     (tie.spec
-    add-lowest-from
-    lowest-from-requires
-    enum-known-b
+    add-lowest_from
+    lowest_from-requires
+    enum_known-b
     enum_told
     add-if1
     add_result

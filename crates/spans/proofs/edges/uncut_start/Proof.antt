@@ -4,24 +4,24 @@ use borrow.Author.Rules.{rules}
 use Rattle.spans.proofs.edges.uncut_start.Statement.{statement}
 use Rattle.spans.proofs.edges.uncut_start.Tie as tie
 
-highest-below-requires : tie.Need-highest-below-requires
-highest-below-requires c κs = search rules
+highest_below-requires : tie.Need-highest_below-requires
+highest_below-requires c κs = search rules
 
-enum-known-b : tie.Need-enum-known-b
-enum-known-b c = search rules
+enum_known-b : tie.Need-enum_known-b
+enum_known-b c = search rules
 
-enum_told : tie.Need-enum-told
+enum_told : tie.Need-enum_told-1
 enum_told c = search rules
 
-returns : tie.Need-returns
-returns c = rw (← c.before.before.before.highest-below.ensures, c.before.b.given.1)
+returns : tie.Need-returns-in-At
+returns c = rw (← c.highest_below.ensures, c.in-At.is)
 
-returns-2 : tie.Need-returns-2
-returns-2 c = rw (← c.before.before.before.highest-below.ensures, c.before.enum_told.given.1) (omega arith)
+returns-2 : tie.Need-returns-then-lo_edge-frame
+returns-2 c = rw (← c.highest_below.ensures, c.in-None.is) (omega arith)
 
-returns-3 : tie.Need-returns-3
-returns-3 c = rw (← c.before.before.before.highest-below.ensures, c.before.enum_told.given.1) (omega arith)
+returns-3 : tie.Need-returns-else-lo_edge-frame
+returns-3 c = rw (← c.highest_below.ensures, c.in-None.is) (omega arith)
 
-pub uncut-start-spec : {M : Type 1} → statement M
-uncut-start-spec =
-    tie.close (tie.spec highest-below-requires enum-known-b enum_told returns returns-2 returns-3)
+pub uncut_start_spec : {M : Type 1} → statement M
+uncut_start_spec =
+    tie.close (tie.spec highest_below-requires enum_known-b enum_told returns returns-2 returns-3)

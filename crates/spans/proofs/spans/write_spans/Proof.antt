@@ -22,13 +22,13 @@ use Rattle.spans.proofs.spans.write_spans.Tie as tie
 abbrev ahead : List ℕ → List ℕ → ℕ → ℕ → ℕ → ℕ → List ℕ
 ahead nuclei bounds lo hi count from = words_of (map (span_of nuclei bounds lo hi) (left nuclei count from))
 
-abbrev invariant-loop : tie.invariant-loop
-invariant-loop nuclei bounds lo-edge hi-edge out₀ count₀ from₀ out count from =
+abbrev invariant-loop : tie.invariant-loop-f
+invariant-loop nuclei bounds lo_edge hi_edge out₀ count₀ from₀ out count from =
     (count + count_from from nuclei ≤ length nuclei)
-    × Progress (words_of (spans_of nuclei bounds lo-edge hi-edge)) out₀ out (2 * count) (ahead nuclei bounds lo-edge hi-edge count from)
+    × Progress (words_of (spans_of nuclei bounds lo_edge hi_edge)) out₀ out (2 * count) (ahead nuclei bounds lo_edge hi_edge count from)
 
-abbrev decreases-loop : tie.decreases-loop
-decreases-loop nuclei bounds lo-edge hi-edge out₀ count₀ from₀ out count from = length nuclei - count
+abbrev decreases-loop : tie.decreases-loop-f
+decreases-loop nuclei bounds lo_edge hi_edge out₀ count₀ from₀ out count from = length nuclei - count
 
 module _ (nuclei bounds : List ℕ) (lo hi : ℕ) where
   begins : (out : List ℕ) → Progress (words_of (spans_of nuclei bounds lo hi)) out out (2 * 0) (ahead nuclei bounds lo hi 0 0)
@@ -54,126 +54,126 @@ module _ (nuclei bounds : List ℕ) (lo hi : ℕ) where
 two-on : (n : ℕ) → 2 * (n + 1) ≡ 2 * n + 2
 two-on n = omega arith
 
-loop-holds : tie.Need-loop-init invariant-loop decreases-loop
+loop-holds : tie.Need-loop-f-init invariant-loop decreases-loop
 loop-holds c =
-    let args = c.before.before.before.args in (
+    let args = c.args in (
       let enough = count_le 0 args.nuclei.now in omega arith,
-      begins args.nuclei.now args.bounds.now args.lo-edge args.hi-edge _,
+      begins args.nuclei.now args.bounds.now args.lo_edge args.hi_edge _,
     )
 
-lowest-from-requires : tie.Need-lowest-from-requires invariant-loop decreases-loop
-lowest-from-requires c κs = search rules
+lowest_from-requires : tie.Need-lowest_from-requires invariant-loop decreases-loop
+lowest_from-requires c κs = search rules
 
-enum-known-f : tie.Need-enum-known-f invariant-loop decreases-loop
-enum-known-f c = search rules
+enum_known-f : tie.Need-enum_known-f invariant-loop decreases-loop
+enum_known-f c = search rules
 
-enum_told : tie.Need-enum-told invariant-loop decreases-loop
+enum_told : tie.Need-enum_told-1 invariant-loop decreases-loop
 enum_told c = search rules
 
-same_length : tie.Need-same-length invariant-loop decreases-loop
-same_length c = c.before.before.before.loop.invariant.1.same
+same_length : tie.Need-shape_of-out-in_default invariant-loop decreases-loop
+same_length c = c.loop-f.invariant.1.same
 
-returns : tie.Need-returns invariant-loop decreases-loop
+returns : tie.Need-returns-in_default invariant-loop decreases-loop
 returns c =
-    let args = c.before.before.before.before.before.before.before.args in
-    let head = c.before.before.before.loop in
-    let last = sym c.before.before.lowest-from.ensures ∙ c.enum_told.given.1 in
-    let none = none_ahead args.nuclei.now args.bounds.now args.lo-edge args.hi-edge head.count head.from last in
+    let args = c.args in
+    let head = c.loop-f in
+    let last = sym c.lowest_from.ensures ∙ c.in_default.is in
+    let none = none_ahead args.nuclei.now args.bounds.now args.lo_edge args.hi_edge head.count head.from last in
     all_written (rw none at head.invariant.1)
 
 -- a turn that has found a frame: the function's entry, the loop's head, and the frame
 abbrev Turn : Type 0
-Turn = tie.After-known-told invariant-loop decreases-loop
+Turn = tie.In-At invariant-loop decreases-loop
 
 abbrev entry : Turn → tie.Start invariant-loop decreases-loop
-entry c = c.before.before.before.before.before.before.before.before
+entry c = c.before.before.before.before.before.before
 
-abbrev head : Turn → tie.At-loop invariant-loop decreases-loop
-head c = c.before.before.before.before
+abbrev head : Turn → tie.At-loop-f invariant-loop decreases-loop
+head c = c.before.before
 
 abbrev frame : Turn → ℕ
-frame c = c.before.f.given.0.0
+frame c = c.in-At.f
 
-there : (c : Turn) → lowest_from (head c).loop.from (entry c).args.nuclei.now ≡ At (frame c)
-there c = sym c.before.before.before.lowest-from.ensures ∙ c.before.f.given.1
+there : (c : Turn) → lowest_from (head c).loop-f.from (entry c).args.nuclei.now ≡ At (frame c)
+there c = sym c.lowest_from.ensures ∙ c.in-At.is
 
 low : (c : Turn) → frame c ≤ last_frame
 low c = within (entry c).requires.within (lowest _ _ (there c)).member
 
-enough : (c : Turn) → (head c).loop.count + 1 + count_from (frame c + 1) (entry c).args.nuclei.now ≤ length (entry c).args.nuclei.now
-enough c = walk_enough _ _ _ (head c).loop.invariant.0 (there c)
+enough : (c : Turn) → (head c).loop-f.count + 1 + count_from (frame c + 1) (entry c).args.nuclei.now ≤ length (entry c).args.nuclei.now
+enough c = walk_enough _ _ _ (head c).loop-f.invariant.0 (there c)
 
-span-of-requires : tie.Need-span-of-requires invariant-loop decreases-loop
-span-of-requires c κs = omega (arith, low c)
+span_of-requires : tie.Need-span_of-span-requires invariant-loop decreases-loop
+span_of-requires c κs = omega (arith, low c)
 
 -- its span stands next, and there is room for it
 abbrev Spanned : Type 0
-Spanned = tie.After-span-of invariant-loop decreases-loop
+Spanned = tie.After-span_of-span invariant-loop decreases-loop
 
 abbrev left_at : Turn → ℕ → ℕ → List ℕ
 left_at c count from =
-    ahead (entry c).args.nuclei.now (entry c).args.bounds.now (entry c).args.lo-edge (entry c).args.hi-edge count from
+    ahead (entry c).args.nuclei.now (entry c).args.bounds.now (entry c).args.lo_edge (entry c).args.hi_edge count from
 
 next : (c : Spanned)
-    → left_at c.before (head c.before).loop.count (head c.before).loop.from
-    ≡ c.Span-of.result.start ∷ c.Span-of.result.end ∷ left_at c.before ((head c.before).loop.count + 1) (frame c.before + 1)
-next c = next-span _ _ _ _ _ _ _ (head c.before).loop.inv.0 (there c.before) c.Span-of.ensures
+    → left_at c.before (head c.before).loop-f.count (head c.before).loop-f.from
+    ≡ c.span_of-span.result.start ∷ c.span_of-span.result.end ∷ left_at c.before ((head c.before).loop-f.count + 1) (frame c.before + 1)
+next c = next-span _ _ _ _ _ _ _ (head c.before).loop-f.invariant.0 (there c.before) c.span_of-span.ensures
 
-space : (c : Spanned) → 2 * (head c.before).loop.count + 2 ≤ length (head c.before).loop.out
-space c = room (head c.before).loop.inv.1 (next c) (fits _ _ _ _ (entry c.before).pre)
+space : (c : Spanned) → 2 * (head c.before).loop-f.count + 2 ≤ length (head c.before).loop-f.out
+space c = room (head c.before).loop-f.invariant.1 (next c) (fits _ _ _ _ (entry c.before).requires)
 
-mul_at : tie.Need-overflow-mul-at invariant-loop decreases-loop
+mul_at : tie.Need-overflow_mul-at invariant-loop decreases-loop
 mul_at c = omega (arith, space c)
 
-mul-out : tie.Need-overflow-mul-out invariant-loop decreases-loop
+mul-out : tie.Need-offset_bounds-out-at invariant-loop decreases-loop
 mul-out c = omega (arith, space c)
 
-slice-write-out : tie.Need-slice-write-out invariant-loop decreases-loop
-slice-write-out c = omega (arith, space c)
+slice_write-out : tie.Need-bounds-out-at invariant-loop decreases-loop
+slice_write-out c = omega (arith, space c)
 
-add-out : tie.Need-overflow-add-out invariant-loop decreases-loop
+add-out : tie.Need-overflow_add-out invariant-loop decreases-loop
 add-out c = omega (arith, space c)
 
-mul-out-2 : tie.Need-overflow-mul-out-2 invariant-loop decreases-loop
+mul-out-2 : tie.Need-offset_bounds-out-at-in-loop-f invariant-loop decreases-loop
 mul-out-2 c = omega (arith, space c)
 
-slice-write-out-2 : tie.Need-slice-write-out-2 invariant-loop decreases-loop
-slice-write-out-2 c = simp length-set (omega (arith, space c))
+slice_write-out-2 : tie.Need-bounds-out-at-in-loop-f invariant-loop decreases-loop
+slice_write-out-2 c = simp length-set (omega (arith, space c))
 
-add-count : tie.Need-overflow-add-count invariant-loop decreases-loop
+add-count : tie.Need-overflow_add-count invariant-loop decreases-loop
 add-count c = omega (arith, space c)
 
-add-from : tie.Need-overflow-add-from invariant-loop decreases-loop
+add-from : tie.Need-overflow_add-from invariant-loop decreases-loop
 add-from c = omega (arith, low c.before)
 
-loop-less : tie.Need-loop-smaller invariant-loop decreases-loop
+loop-less : tie.Need-loop-f-smaller invariant-loop decreases-loop
 loop-less c = omega (arith, enough c.before)
 
-loop-again : tie.Need-loop-preserved invariant-loop decreases-loop
+loop-again : tie.Need-loop-f-preserved invariant-loop decreases-loop
 loop-again c = (
   enough c.before,
-  rw (two-on (head c.before).loop.count) (two_more (head c.before).loop.inv.1 (next c) (fits _ _ _ _ (entry c.before).pre)),
+  rw (two-on (head c.before).loop-f.count) (two_more (head c.before).loop-f.invariant.1 (next c) (fits _ _ _ _ (entry c.before).requires)),
 )
 
-pub write-spans-spec : {M : Type 1} → statement M
-write-spans-spec =
+pub write_spans_spec : {M : Type 1} → statement M
+write_spans_spec =
     tie.close
     (tie.spec
     invariant-loop
     decreases-loop
     loop-holds
-    lowest-from-requires
-    enum-known-f
+    lowest_from-requires
+    enum_known-f
     enum_told
     same_length
     returns
-    span-of-requires
+    span_of-requires
     mul_at
     mul-out
-    slice-write-out
+    slice_write-out
     add-out
     mul-out-2
-    slice-write-out-2
+    slice_write-out-2
     add-count
     add-from
     loop-less

@@ -7,10 +7,10 @@ use Rattle.limits.specs.Capacity.{most_boundaries, unit_counts}
 use Rattle.limits.proofs.edition.Limits.work_cells.Statement.{statement}
 use Rattle.limits.proofs.edition.Limits.work_cells.Tie as tie
 
-add_result : tie.Need-overflow-add-result
+add_result : tie.Need-overflow_add-result
 add_result c = search rules
 
-mul_result : tie.Need-overflow-mul-result
+mul_result : tie.Need-overflow_mul-result
 mul_result c =
     let start = c.before.before in
     omega (arith, mul-le-mul {n₁ = suc start.args.self.units} {n₂ = unit_counts} {m₂ = most_boundaries} (omega (arith, start.requires.units)) start.requires.boundaries)
@@ -18,5 +18,5 @@ mul_result c =
 returns : tie.Need-returns
 returns c = search rules
 
-pub work-cells-spec : {M : Type 1} → statement M
-work-cells-spec = tie.close (tie.spec add_result mul_result returns)
+pub work_cells_spec : {M : Type 1} → statement M
+work_cells_spec = tie.close (tie.spec add_result mul_result returns)
