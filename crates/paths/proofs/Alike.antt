@@ -252,6 +252,7 @@ module _ {phrase phrase' : Phrase} {columns columns' : List ℕ} (below : RowsBe
 
   first_too : {pass : Pass} {order : List Pass} → EachPass PassAgrees order → FirstOf phrase columns pass order
       → FirstOf phrase' columns' pass order
+  first_too {pass = pass} all_done x3 = elim x3 [ ]
   first_too (each_of agree others) (here (p, a, counted)) = here (p, admitted_too agree a, counted ∙ alike.unit_count)
   first_too (each_of {pass = earlier} agree others) (after missing first) = after (none_too earlier agree missing) (first_too others first)
 

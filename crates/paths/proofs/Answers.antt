@@ -32,6 +32,7 @@ each_pass_follows f (each_of {pass = pass} p others) = each_of (f pass p) (each_
 -- what holds of each pass holds of the first that admits a path
 pub first_each : {P : Pass → Type 0} {phrase : Phrase} {columns : List ℕ} {pass : Pass} {order : List Pass} → EachPass P order
     → FirstOf phrase columns pass order → P pass
+first_each {P = P} {phrase = phrase} {columns = columns} {pass = pass} all_done x3 = elim x3 [ ]
 first_each (each_of p others) (here a) = p
 first_each (each_of p others) (after missing first) = first_each others first
 

@@ -62,6 +62,7 @@ module _ {X E W : Type 0} (S : System X E W) (layered : Layered S) (t : X → Ce
           some_keep_later _ (λ a b at bt less le. through r b a run bt.runs at.runs le
           (ordered.stay (value_of S a) (value_of S b) (all_ok a at.runs) (all_ok b bt.runs) less));
       begins = λ x o. some_held (ordered.same (value_of S (start x)) (all_ok (start x) (opening o)));
+      along r e run allow empty _ x3 = elim x3 [ ]
       along = λ r e run allow. along r e run allow (t (state_of S r));
     }
       where

@@ -47,6 +47,7 @@ module _ (phrase : Phrase) (columns : List ℕ) where
   first_same (after missing first) (after missed later) = first_same first later
 
   none_first : {order : List Pass} {pass : Pass} → EachPass (AdmitsNone phrase columns) order → FirstOf phrase columns pass order → ⊥
+  none_first {pass = pass} all_done x3 = elim x3 [ ]
   none_first {pass = pass} (each_of missing others) (here a) = conflict pass missing a
   none_first (each_of missing others) (after missed first) = none_first others first
 

@@ -1,5 +1,6 @@
 -- The optimality theorem, from the laws of IEEE 754: rounded addition and subtraction are monotone, so the best way into each cell
 -- is the start of a best path.
+use Rattle.paths.specs.Theory.PathSystem.{done}
 use Prim.Native.Nat.{ℕ, ◌≤◌}
 use native.Mathlib.Omega.{arith}
 use mathlib.Core.Path.{◌≡◌}
@@ -21,6 +22,7 @@ module _ (q : Problem) (k : ℕ) (finite : Finite q k) where
   steps_grow :
       (x : State) (e : Move) (u v : Float) → allows q k x e → Real binary64 u → Real binary64 v →
       Real binary64 (next q x e u) → Real binary64 (next q x e v) → T (le u v) → T (le (next q x e u) (next q x e v))
+  steps_grow (done _) e u v al a b c d = elim al [ ]
   steps_grow (on s i) by_gap u v al a b c d = sub_mono a b (finite.gap_costs i al.1) c d
   steps_grow (on s i) (by_unit j) u v al a b c d = add_mono a b (finite.unit_values s i j al.0 al.1 al.2 al.3) c d
   steps_grow (on s i) stop u v al a b c d = sub_mono a b (finite.stop_costs i al.1) c d

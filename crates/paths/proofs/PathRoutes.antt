@@ -1,4 +1,5 @@
 -- Paths are the routes of their system: same end, count, value and admission, and a route that has come to an end has a path's sum.
+use Prim.Native.Nat.{suc}
 use Prim.Native.Nat.{ℕ, zero, ◌≤◌, ◌<◌, zero-le}
 use native.Mathlib.Omega.{arith}
 use mathlib.Core.Path.{◌≡◌, refl, sym, ap, ap₂, subst}
@@ -59,6 +60,8 @@ module _ (q : Problem) (k : ℕ) where
 
   opened : (x : State) → opens q x → Seen (start x)
   unfolding route count
+  opened (on (suc _) j) l = elim l [ ]
+  opened (done _) l = elim l [ ]
   opened (on zero j) l = seen_path (begin j) (begins l) zero-le
 
   moved : {r : Route State Move} (e : Move) → Seen r → allows q k (state_of (path_system q k) r) e → Seen (step r e)

@@ -135,6 +135,8 @@ module _ (q : Problem) (k : ℕ) where
       opened (by_start l) = l
 
       opens_in : (x : State) → opens q x → In fresh (ways_of q k x)
+      opens_in (on (suc _) j) o = elim o [ ]
+      opens_in (done _) o = elim o [ ]
       opens_in (on zero j) o = arrives_in (by_start o)
 
       allowed : {x y : State} {e : Move} → Arrives q k x (after y e) → allows q k y e
@@ -148,6 +150,7 @@ module _ (q : Problem) (k : ℕ) where
       leads_to (by_stop a l) = refl
 
       allows_in : (y : State) (e : Move) → allows q k y e → In (after y e) (ways_of q k (leads y e))
+      allows_in (done _) e h = elim h [ ]
       allows_in (on s i) by_gap h = arrives_in (by_gap_law h.0 h.1)
       allows_in (on s i) (by_unit j) h = arrives_in (by_unit_law h.0 h.1 h.2 h.3)
       allows_in (on s i) stop h = arrives_in (by_stop h.0 h.1)

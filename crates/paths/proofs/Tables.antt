@@ -51,6 +51,7 @@ module _ {X E C : Type 0} (kind : Kind X E C) (t : X → C) (x : X) where
       (ws : Ways X E) → ((w : Way X E) → In w ws → R (bring kind t x w)) →
       (w : Way X E) → In w ws → P (bring kind t x w) → P (gather kind t x ws)
   unfolding gather
+  gather_some R P nothing join left right none each w x4 p = elim x4 [ ]
   gather_some R P nothing join left right (ws then u) each w (last e) p =
       right (gather kind t x ws) (bring kind t x u) (gather_every R nothing join ws (λ v i. each v (earlier i))) (each u (last refl))
       (subst (λ v. P (bring kind t x v)) e p)

@@ -11,88 +11,88 @@ use Rattle.entries.proofs.UnitStores.{units_turn, units_end}
 use Rattle.entries.proofs.words.put_units.Statement.{statement}
 use Rattle.entries.proofs.words.put_units.Tie as tie
 
-abbrev invariant-loop : tie.invariant-loop
+abbrev invariant-loop : tie.invariant-loop-i
 invariant-loop out₀ at count starts ends rows i₀ out i =
     (i ≤ count)
     × (length out ≡ length out₀)
     × (sets out₀ at (unit_words (units_from starts ends rows count 0))
     ≡ sets out (at + 3 * i) (unit_words (units_from starts ends rows (count - i) i)))
 
-abbrev decreases-loop : tie.decreases-loop
+abbrev decreases-loop : tie.decreases-loop-i
 decreases-loop out₀ at count starts ends rows i₀ out i = count - i
 
-loop-holds : tie.Need-loop-init invariant-loop decreases-loop
+loop-holds : tie.Need-loop-i-init invariant-loop decreases-loop
 loop-holds c = (omega arith, refl, simp (add-zero, sub-zero))
 
-mul-to : tie.Need-overflow-mul-to invariant-loop decreases-loop
+mul-to : tie.Need-overflow_mul-to invariant-loop decreases-loop
 mul-to c = omega arith
 
-add-to : tie.Need-overflow-add-to invariant-loop decreases-loop
+add-to : tie.Need-overflow_add-to invariant-loop decreases-loop
 add-to c = omega arith
 
-mul-out : tie.Need-overflow-mul-out invariant-loop decreases-loop
+mul-out : tie.Need-offset_bounds-starts-i invariant-loop decreases-loop
 mul-out c = omega arith
 
-shared-slice-read-out : tie.Need-shared-slice-read-out invariant-loop decreases-loop
-shared-slice-read-out c = omega arith
+shared_slice_read-out : tie.Need-bounds-starts-i invariant-loop decreases-loop
+shared_slice_read-out c = omega arith
 
-mul-out-2 : tie.Need-overflow-mul-out-2 invariant-loop decreases-loop
+mul-out-2 : tie.Need-offset_bounds-out-to invariant-loop decreases-loop
 mul-out-2 c = omega arith
 
-slice-write-out : tie.Need-slice-write-out invariant-loop decreases-loop
-slice-write-out c = omega arith
+slice_write-out : tie.Need-bounds-out-to invariant-loop decreases-loop
+slice_write-out c = omega arith
 
-mul-out-3 : tie.Need-overflow-mul-out-3 invariant-loop decreases-loop
+mul-out-3 : tie.Need-offset_bounds-ends-i invariant-loop decreases-loop
 mul-out-3 c = omega arith
 
-shared-slice-read-out-2 : tie.Need-shared-slice-read-out-2 invariant-loop decreases-loop
-shared-slice-read-out-2 c = omega arith
+shared_slice_read-out-2 : tie.Need-bounds-ends-i invariant-loop decreases-loop
+shared_slice_read-out-2 c = omega arith
 
-add-out : tie.Need-overflow-add-out invariant-loop decreases-loop
+add-out : tie.Need-overflow_add-out invariant-loop decreases-loop
 add-out c = omega arith
 
-mul-out-4 : tie.Need-overflow-mul-out-4 invariant-loop decreases-loop
+mul-out-4 : tie.Need-offset_bounds-out-to-in-loop-i invariant-loop decreases-loop
 mul-out-4 c = omega arith
 
-slice-write-out-2 : tie.Need-slice-write-out-2 invariant-loop decreases-loop
-slice-write-out-2 c = simp length-set (omega arith)
+slice_write-out-2 : tie.Need-bounds-out-to-in-loop-i invariant-loop decreases-loop
+slice_write-out-2 c = simp length-set (omega arith)
 
-mul-out-5 : tie.Need-overflow-mul-out-5 invariant-loop decreases-loop
+mul-out-5 : tie.Need-offset_bounds-rows-i invariant-loop decreases-loop
 mul-out-5 c = omega arith
 
-shared-slice-read-out-3 : tie.Need-shared-slice-read-out-3 invariant-loop decreases-loop
-shared-slice-read-out-3 c = omega arith
+shared_slice_read-out-3 : tie.Need-bounds-rows-i invariant-loop decreases-loop
+shared_slice_read-out-3 c = omega arith
 
-add-out-2 : tie.Need-overflow-add-out-2 invariant-loop decreases-loop
+add-out-2 : tie.Need-overflow_add-out-in-loop-i invariant-loop decreases-loop
 add-out-2 c = omega arith
 
-mul-out-6 : tie.Need-overflow-mul-out-6 invariant-loop decreases-loop
+mul-out-6 : tie.Need-offset_bounds-out-to-in-loop-i-2 invariant-loop decreases-loop
 mul-out-6 c = omega arith
 
-slice-write-out-3 : tie.Need-slice-write-out-3 invariant-loop decreases-loop
-slice-write-out-3 c = simp length-set (omega arith)
+slice_write-out-3 : tie.Need-bounds-out-to-in-loop-i-2 invariant-loop decreases-loop
+slice_write-out-3 c = simp length-set (omega arith)
 
-add-i : tie.Need-overflow-add-i invariant-loop decreases-loop
+add-i : tie.Need-overflow_add-i invariant-loop decreases-loop
 add-i c = omega arith
 
-loop-less : tie.Need-loop-smaller invariant-loop decreases-loop
+loop-less : tie.Need-loop-i-smaller invariant-loop decreases-loop
 loop-less c = omega arith
 
-loop-again : tie.Need-loop-preserved invariant-loop decreases-loop
+loop-again : tie.Need-loop-i-preserved invariant-loop decreases-loop
 loop-again c = (
   omega arith,
   simp length-set (omega arith),
-  c.before.before.before.before.loop.invariant.2 ∙ units_turn _ _ _ _ _ _ _ c.before.before.before.loop-test.true,
+  c.loop-i.invariant.2 ∙ units_turn _ _ _ _ _ _ _ c.loop-i-test.true,
 )
 
-same_length : tie.Need-same-length invariant-loop decreases-loop
-same_length c = c.before.loop.invariant.1
+same_length : tie.Need-shape_of-out invariant-loop decreases-loop
+same_length c = c.loop-i.invariant.1
 
 returns : tie.Need-returns invariant-loop decreases-loop
-returns c = sym (c.before.loop.invariant.2 ∙ units_end _ _ _ _ _ _ _ c.loop-test.false)
+returns c = sym (c.loop-i.invariant.2 ∙ units_end _ _ _ _ _ _ _ c.loop-i-test.false)
 
-pub put-units-spec : {M : Type 1} → statement M
-put-units-spec =
+pub put_units_spec : {M : Type 1} → statement M
+put_units_spec =
     tie.close
     (tie.spec
     invariant-loop
@@ -101,19 +101,19 @@ put-units-spec =
     mul-to
     add-to
     mul-out
-    shared-slice-read-out
+    shared_slice_read-out
     mul-out-2
-    slice-write-out
+    slice_write-out
     mul-out-3
-    shared-slice-read-out-2
+    shared_slice_read-out-2
     add-out
     mul-out-4
-    slice-write-out-2
+    slice_write-out-2
     mul-out-5
-    shared-slice-read-out-3
+    shared_slice_read-out-3
     add-out-2
     mul-out-6
-    slice-write-out-3
+    slice_write-out-3
     add-i
     loop-less
     loop-again

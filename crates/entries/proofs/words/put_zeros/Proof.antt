@@ -8,52 +8,52 @@ use Rattle.laws.proofs.Stores.{fill_turn, fill_end}
 use Rattle.entries.proofs.words.put_zeros.Statement.{statement}
 use Rattle.entries.proofs.words.put_zeros.Tie as tie
 
-abbrev invariant-loop : tie.invariant-loop
+abbrev invariant-loop : tie.invariant-loop-i
 invariant-loop out₀ from to i₀ out i =
     (i ≤ to) × (length out ≡ length out₀) × (sets out₀ from (replicate (to - from) 0) ≡ sets out i (replicate (to - i) 0))
 
-abbrev decreases-loop : tie.decreases-loop
+abbrev decreases-loop : tie.decreases-loop-i
 decreases-loop out₀ from to i₀ out i = to - i
 
-loop-holds : tie.Need-loop-init invariant-loop decreases-loop
+loop-holds : tie.Need-loop-i-init invariant-loop decreases-loop
 loop-holds c = (omega arith, refl, refl)
 
-mul-out : tie.Need-overflow-mul-out invariant-loop decreases-loop
+mul-out : tie.Need-offset_bounds-out-i invariant-loop decreases-loop
 mul-out c = omega arith
 
-slice-write-out : tie.Need-slice-write-out invariant-loop decreases-loop
-slice-write-out c = omega arith
+slice_write-out : tie.Need-bounds-out-i invariant-loop decreases-loop
+slice_write-out c = omega arith
 
-add-i : tie.Need-overflow-add-i invariant-loop decreases-loop
+add-i : tie.Need-overflow_add-i invariant-loop decreases-loop
 add-i c = omega arith
 
-loop-less : tie.Need-loop-smaller invariant-loop decreases-loop
+loop-less : tie.Need-loop-i-smaller invariant-loop decreases-loop
 loop-less c = omega arith
 
-loop-again : tie.Need-loop-preserved invariant-loop decreases-loop
+loop-again : tie.Need-loop-i-preserved invariant-loop decreases-loop
 loop-again c = (
   omega arith,
-  simp length-set c.before.loop.invariant.1,
-  c.before.loop.invariant.2 ∙ fill_turn c.before.loop.out 0 c.before.loop.i c.before.before.args.to c.loop-test.true,
+  simp length-set c.loop-i.invariant.1,
+  c.loop-i.invariant.2 ∙ fill_turn c.loop-i.out 0 c.loop-i.i c.args.to c.loop-i-test.true,
 )
 
-same_length : tie.Need-same-length invariant-loop decreases-loop
-same_length c = c.before.loop.invariant.1
+same_length : tie.Need-shape_of-out invariant-loop decreases-loop
+same_length c = c.loop-i.invariant.1
 
 returns : tie.Need-returns invariant-loop decreases-loop
 returns c =
-    sym (c.before.loop.invariant.2
-    ∙ fill_end c.before.loop.out 0 c.before.loop.i c.before.before.args.to c.loop-test.false)
+    sym (c.loop-i.invariant.2
+    ∙ fill_end c.loop-i.out 0 c.loop-i.i c.args.to c.loop-i-test.false)
 
-pub put-zeros-spec : {M : Type 1} → statement M
-put-zeros-spec =
+pub put_zeros_spec : {M : Type 1} → statement M
+put_zeros_spec =
     tie.close
     (tie.spec
     invariant-loop
     decreases-loop
     loop-holds
     mul-out
-    slice-write-out
+    slice_write-out
     add-i
     loop-less
     loop-again

@@ -8,6 +8,7 @@ use borrow.Author.Rules.{rules}
 use Rattle.rate.specs.Rate.{below, gaps}
 use Rattle.rate.proofs.Places.{passed_too, none_below_zero, found}
 use Rattle.rate.proofs.gaps.gap_at.Statement.{statement}
+use Rattle.rate.proofs.gaps.gap_at.Lts.{then-gaps_below-place, else-gaps_below-place}
 use Rattle.rate.proofs.gaps.gap_at.Tie as tie
 
 abbrev invariant-loop : tie.invariant-loop-range
@@ -46,10 +47,12 @@ loop-again c =
     let gs = gaps args.ascending.now in
     let counted = c.gaps_below.ensures in
     let inv = c.loop-range.invariant in
-    ⊎_elim
-    (λ w. (omega arith, rw w.1 (subst (λ (n : ℕ). n ≤ args.place) counted w.0.taken), passed_too gs inv.2 (omega arith)))
-    (λ w. (omega arith, rw w.1 inv.1, passed_too gs (subst (λ (n : ℕ). args.place < n) counted w.0.left) (omega arith)))
-    c.if-gaps_below-place.branch
+    elim c.if-gaps_below-place.branch [
+      then-gaps_below-place w ↦
+          (omega arith, rw w.low-is (subst (λ (n : ℕ). n ≤ args.place) counted w.if-gaps_below-place.true), passed_too gs inv.2 (omega arith))
+    | else-gaps_below-place w ↦
+          (omega arith, rw w.low-is inv.1, passed_too gs (subst (λ (n : ℕ). args.place < n) counted w.if-gaps_below-place.false) (omega arith))
+    ]
 
 returns : tie.Need-returns invariant-loop decreases-loop
 returns c =
