@@ -62,13 +62,13 @@ module _ {X E W : Type 0} (S : System X E W) (layered : Layered S) (t : X → Ce
           some_keep_later _ (λ a b at bt less le. through r b a run bt.runs at.runs le
           (ordered.stay (value_of S a) (value_of S b) (all_ok a at.runs) (all_ok b bt.runs) less));
       begins = λ x o. some_held (ordered.same (value_of S (start x)) (all_ok (start x) (opening o)));
-      along r e run allow empty _ x3 = elim x3 [ ]
       along = λ r e run allow. along r e run allow (t (state_of S r));
     }
       where
         along :
             (r : Route X E) (e : E) → Runs S r → S.allows (state_of S r) e → (c : Cell (Route X E)) → Every (Ends S (state_of S r)) c →
             Some (AtLeast r) c → Some (AtLeast (step r e)) (carry (λ b. step b e) c)
+        along r e run allow empty _ x3 = elim x3 [ ]
         along r e run allow (held a) (every_held at) (some_held le) = some_held {a = step a e} (stepped r a e run allow at le)
 
     -- the cell where a route ends holds one that is at least as large

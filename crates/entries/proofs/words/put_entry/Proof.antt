@@ -45,7 +45,7 @@ returns c =
     let a = start.args in
     let e = entry_from a.head a.starts.now a.ends.now a.rows.now in
     let counted = length_units_from a.starts.now a.ends.now a.rows.now a.head.units 0 in
-    stored a.most e a.out.now a.at a.head.units counted start.pre.1.few start.pre.0
+    stored a.most e a.out.now a.at a.head.units counted start.requires.1.few start.requires.0
     c.put_head.ensures
     c.put_units.ensures c.put_zeros.ensures
 
