@@ -5,14 +5,14 @@ use borrow.Author.Rules.{rules}
 use Rattle.fields.proofs.id_at.Statement.{statement}
 use Rattle.fields.proofs.id_at.Tie as tie
 
-candidate-start-requires : tie.Need-candidate-start-requires
-candidate-start-requires c κs = search rules
+candidate_start-requires : tie.Need-candidate_start-requires
+candidate_start-requires c κs = search rules
 
-u32-at-requires : tie.Need-u32-at-requires
-u32-at-requires c κs = search rules
+u32_at-requires : tie.Need-u32_at-requires
+u32_at-requires c κs = search rules
 
 returns : tie.Need-returns
-returns c = c.u32-at.ensures ∙ ap (u32_at _) c.before.candidate-start.ensures.0
+returns c = c.u32_at.ensures ∙ ap (u32_at _) c.candidate_start.ensures.0
 
-pub id-at-spec : {M : Type 1} → statement M
-id-at-spec = tie.close (tie.spec candidate-start-requires u32-at-requires returns)
+pub id_at_spec : {M : Type 1} → statement M
+id_at_spec = tie.close (tie.spec candidate_start-requires u32_at-requires returns)

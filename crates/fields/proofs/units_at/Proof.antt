@@ -7,23 +7,23 @@ use borrow.Author.Rules.{rules}
 use Rattle.fields.proofs.units_at.Statement.{statement}
 use Rattle.fields.proofs.units_at.Tie as tie
 
-candidate-start-requires : tie.Need-candidate-start-requires
-candidate-start-requires c κs = search rules
+candidate_start-requires : tie.Need-candidate_start-requires
+candidate_start-requires c κs = search rules
 
-add-u32-at : tie.Need-overflow-add-u32-at
-add-u32-at c = search rules
+add-u32_at : tie.Need-overflow_add-candidate_start
+add-u32_at c = search rules
 
-u32-at-requires : tie.Need-u32-at-requires
-u32-at-requires c κs = search rules
+u32_at-requires : tie.Need-u32_at-requires
+u32_at-requires c κs = search rules
 
-cast-result : tie.Need-overflow-cast-result
+cast-result : tie.Need-overflow_cast-result
 cast-result c = search rules
 
 returns : tie.Need-returns
 returns c =
     let start = c.before.before.before in
-    c.u32-at.ensures ∙ ap (λ (k : ℕ). u32_at start.args.bytes.now (k + count_at)) c.before.candidate-start.ensures.0
+    c.u32_at.ensures ∙ ap (λ (k : ℕ). u32_at start.args.bytes.now (k + count_at)) c.candidate_start.ensures.0
 
-pub units-at-spec : {M : Type 1} → statement M
-units-at-spec =
-    tie.close (tie.spec candidate-start-requires add-u32-at u32-at-requires cast-result returns)
+pub units_at_spec : {M : Type 1} → statement M
+units_at_spec =
+    tie.close (tie.spec candidate_start-requires add-u32_at u32_at-requires cast-result returns)

@@ -13,23 +13,23 @@ use borrow.Author.Rules.{rules}
 use Rattle.figures.proofs.bad_cost.Statement.{statement}
 use Rattle.figures.proofs.bad_cost.Tie as tie
 
-add-entries : tie.Need-overflow-add-entries
+add-entries : tie.Need-overflow_add-entries
 add-entries c = search rules
 
-mul-entries : tie.Need-overflow-mul-entries
+mul-entries : tie.Need-overflow_mul-entries
 mul-entries c = search rules
 
-bad-scores-requires : tie.Need-bad-scores-requires
-bad-scores-requires c κs = search rules
+bad_scores-requires : tie.Need-bad_scores-requires
+bad_scores-requires c κs = search rules
 
-bad-figures-requires : tie.Need-bad-figures-requires
-bad-figures-requires c κs = search rules
+bad_figures-requires : tie.Need-bad_figures-requires
+bad_figures-requires c κs = search rules
 
-add-bad-table : tie.Need-overflow-add-bad-table
-add-bad-table c = search rules
+add-bad_table : tie.Need-overflow_add-costs
+add-bad_table c = search rules
 
-bad-table-requires : tie.Need-bad-table-requires
-bad-table-requires c κs = search rules
+bad_table-requires : tie.Need-bad_table-requires
+bad_table-requires c κs = search rules
 
 -- the costs but those of the second table, and what they leave
 abbrev First : List ℕ → Layout → Bool
@@ -52,38 +52,38 @@ second bytes at e some =
     ap (λ (b : Bool). b && bad_table bytes (second_table at.costs)) (sym (lt-ltb 0 at.added_anchors.count some)) ∙ or_rest (First bytes at) _ e
 
 -- the result of the first test
-tested : (c : tie.After-bad-table) → (c.before.before.bad-scores.result || c.before.bad-figures.result || c.bad-table.result) ≡ First c.before.before.before.before.before.before.args.bytes.now c.before.before.before.before.before.before.args.at
-tested c = ap₂ ◌||◌ (ap₂ ◌||◌ c.before.before.bad-scores.ensures c.before.bad-figures.ensures) c.bad-table.ensures
+tested : (c : tie.After-bad_table) → (c.bad_scores.result || c.bad_figures.result || c.bad_table.result) ≡ First c.args.bytes.now c.args.at
+tested c = ap₂ ◌||◌ (ap₂ ◌||◌ c.bad_scores.ensures c.bad_figures.ensures) c.bad_table.ensures
 
-returns : tie.Need-returns
-returns c = bad-first _ _ (sym (tested c.before) ∙ c.if1.true)
+returns : tie.Need-returns-then-bad_scores-bad_figures
+returns c = bad-first _ _ (sym (tested c.before) ∙ c.if-bad_scores-bad_figures.true)
 
-returns-2 : tie.Need-returns-2
-returns-2 c = no_second _ _ (sym (tested c.before.before.before) ∙ c.before.before.if1.false) c.if2.true
+returns-2 : tie.Need-returns-then-at-eq0
+returns-2 c = no_second _ _ (sym (tested c.before.before.before) ∙ c.if-bad_scores-bad_figures.false) c.if-at-eq0.true
 
-add-bad-table-2 : tie.Need-overflow-add-bad-table-2
-add-bad-table-2 c = search rules
+add-bad_table-2 : tie.Need-overflow_add-costs-2
+add-bad_table-2 c = search rules
 
-bad-table-requires-2 : tie.Need-bad-table-requires-2
-bad-table-requires-2 c κs = search rules
+bad_table-requires-2 : tie.Need-bad_table-requires-2
+bad_table-requires-2 c κs = search rules
 
-returns-3 : tie.Need-returns-3
+returns-3 : tie.Need-returns
 returns-3 c =
-    let some : 0 < c.before.before.before.before.before.before.before.before.before.before.args.at.added_anchors.count = omega (arith, c.before.if2.false) in
-    c.bad-table2.ensures ∙ second _ _ (sym (tested c.before.before.before.before) ∙ c.before.before.before.if1.false) some
+    let some : 0 < c.args.at.added_anchors.count = omega (arith, c.if-at-eq0.false) in
+    c.bad_table-2.ensures ∙ second _ _ (sym (tested c.before.before.before.before) ∙ c.if-bad_scores-bad_figures.false) some
 
-pub bad-cost-spec : {M : Type 1} → statement M
-bad-cost-spec =
+pub bad_cost_spec : {M : Type 1} → statement M
+bad_cost_spec =
     tie.close
     (tie.spec
     add-entries
     mul-entries
-    bad-scores-requires
-    bad-figures-requires
-    add-bad-table
-    bad-table-requires
+    bad_scores-requires
+    bad_figures-requires
+    add-bad_table
+    bad_table-requires
     returns
     returns-2
-    add-bad-table-2
-    bad-table-requires-2
+    add-bad_table-2
+    bad_table-requires-2
     returns-3)

@@ -16,38 +16,38 @@ use Rattle.figures.proofs.bad_table.Tie as tie
 abbrev Test : List ℕ → ℕ → ℕ → Bool
 Test bytes table i = not (is_duration (f64_at bytes (table + 8 * i)))
 
-abbrev invariant-loop : tie.invariant-loop
+abbrev invariant-loop : tie.invariant-loop-i
 invariant-loop bytes table bad₀ i₀ bad i = (i ≤ durations) × (bad ≡ any_below (Test bytes table) i)
 
-abbrev decreases-loop : tie.decreases-loop
+abbrev decreases-loop : tie.decreases-loop-i
 decreases-loop bytes table bad₀ i₀ bad i = durations - i
 
-loop-holds : tie.Need-loop-init invariant-loop decreases-loop
+loop-holds : tie.Need-loop-i-init invariant-loop decreases-loop
 loop-holds c = (omega arith, sym (any_none _))
 
-mul-duration-fits : tie.Need-overflow-mul-duration-fits invariant-loop decreases-loop
-mul-duration-fits c = omega arith
+mul-duration_fits : tie.Need-overflow_mul-i invariant-loop decreases-loop
+mul-duration_fits c = omega arith
 
-add-duration-fits : tie.Need-overflow-add-duration-fits invariant-loop decreases-loop
-add-duration-fits c = omega arith
+add-duration_fits : tie.Need-overflow_add-table invariant-loop decreases-loop
+add-duration_fits c = omega arith
 
-duration-fits-requires : tie.Need-duration-fits-requires invariant-loop decreases-loop
-duration-fits-requires c κs = omega arith
+duration_fits-requires : tie.Need-duration_fits-requires invariant-loop decreases-loop
+duration_fits-requires c κs = omega arith
 
-add-i : tie.Need-overflow-add-i invariant-loop decreases-loop
+add-i : tie.Need-overflow_add-i invariant-loop decreases-loop
 add-i c = omega arith
 
-loop-less : tie.Need-loop-smaller invariant-loop decreases-loop
+loop-less : tie.Need-loop-i-smaller invariant-loop decreases-loop
 loop-less c = omega arith
 
-loop-again : tie.Need-loop-preserved invariant-loop decreases-loop
+loop-again : tie.Need-loop-i-preserved invariant-loop decreases-loop
 unfolding any_below
-loop-again c = (omega arith, rw (add-one, c.before.before.loop.invariant.1, c.duration-fits.ensures))
+loop-again c = (omega arith, rw (add-one, c.loop-i.invariant.1, c.duration_fits.ensures))
 
 returns : tie.Need-returns invariant-loop decreases-loop
-returns c = let loop = c.before.loop in loop.invariant.1 ∙ ap (any_below _) (le_antisymm loop.invariant.0 c.loop-test.false)
+returns c = let loop = c.loop-i in loop.invariant.1 ∙ ap (any_below _) (le_antisymm loop.invariant.0 c.loop-i-test.false)
 
-pub bad-table-spec : {M : Type 1} → statement M
-bad-table-spec =
+pub bad_table_spec : {M : Type 1} → statement M
+bad_table_spec =
     tie.close
-    (tie.spec invariant-loop decreases-loop loop-holds mul-duration-fits add-duration-fits duration-fits-requires add-i loop-less loop-again returns)
+    (tie.spec invariant-loop decreases-loop loop-holds mul-duration_fits add-duration_fits duration_fits-requires add-i loop-less loop-again returns)

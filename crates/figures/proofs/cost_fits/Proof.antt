@@ -8,14 +8,14 @@ use borrow.Author.Rules.{rules}
 use Rattle.figures.proofs.cost_fits.Statement.{statement}
 use Rattle.figures.proofs.cost_fits.Tie as tie
 
-u64-at-requires : tie.Need-u64-at-requires
-u64-at-requires c κs = search rules
+u64_at-requires : tie.Need-u64_at-requires
+u64_at-requires c κs = search rules
 
 within64-requires : tie.Need-within64-requires
 within64-requires c κs = search rules
 
 returns : tie.Need-returns
-returns c = c.within64.ensures.answer ∙ ap₂ (λ (l : Float) (p : ℕ). within l (of_bits binary64 p)) thousand_64 c.before.u64-at.ensures
+returns c = c.within64.ensures.answer ∙ ap₂ (λ (l : Float) (p : ℕ). within l (of_bits binary64 p)) thousand_64 c.u64_at.ensures
 
-pub cost-fits-spec : {M : Type 1} → statement M
-cost-fits-spec = tie.close (tie.spec u64-at-requires within64-requires returns)
+pub cost_fits_spec : {M : Type 1} → statement M
+cost_fits_spec = tie.close (tie.spec u64_at-requires within64-requires returns)

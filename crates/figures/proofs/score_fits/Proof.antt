@@ -8,14 +8,14 @@ use borrow.Author.Rules.{rules}
 use Rattle.figures.proofs.score_fits.Statement.{statement}
 use Rattle.figures.proofs.score_fits.Tie as tie
 
-u32-at-requires : tie.Need-u32-at-requires
-u32-at-requires c κs = search rules
+u32_at-requires : tie.Need-u32_at-requires
+u32_at-requires c κs = search rules
 
 within32-requires : tie.Need-within32-requires
 within32-requires c κs = search rules
 
 returns : tie.Need-returns
-returns c = c.within32.ensures.answer ∙ ap₂ (λ (l : Float) (p : ℕ). within l (of_bits binary32 p)) million_32 c.before.u32-at.ensures
+returns c = c.within32.ensures.answer ∙ ap₂ (λ (l : Float) (p : ℕ). within l (of_bits binary32 p)) million_32 c.u32_at.ensures
 
-pub score-fits-spec : {M : Type 1} → statement M
-score-fits-spec = tie.close (tie.spec u32-at-requires within32-requires returns)
+pub score_fits_spec : {M : Type 1} → statement M
+score_fits_spec = tie.close (tie.spec u32_at-requires within32-requires returns)

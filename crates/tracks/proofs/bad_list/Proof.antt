@@ -4,14 +4,14 @@ use mathlib.Core.Path.{ap₂}
 use Rattle.tracks.proofs.bad_list.Statement.{statement}
 use Rattle.tracks.proofs.bad_list.Tie as tie
 
-late-frame-requires : tie.Need-late-frame-requires
-late-frame-requires c κs = c.before.requires
+late_frame-requires : tie.Need-late_frame-requires
+late_frame-requires c κs = c.requires
 
 unordered-requires : tie.Need-unordered-requires
-unordered-requires c κs = c.before.before.requires
+unordered-requires c κs = c.requires
 
 returns : tie.Need-returns
-returns c = ap₂ ◌||◌ c.before.late-frame.ensures c.unordered.ensures
+returns c = ap₂ ◌||◌ c.late_frame.ensures c.unordered.ensures
 
-pub bad-list-spec : {M : Type 1} → statement M
-bad-list-spec = tie.close (tie.spec late-frame-requires unordered-requires returns)
+pub bad_list_spec : {M : Type 1} → statement M
+bad_list_spec = tie.close (tie.spec late_frame-requires unordered-requires returns)

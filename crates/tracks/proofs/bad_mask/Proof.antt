@@ -16,34 +16,34 @@ use Rattle.tracks.proofs.bad_mask.Tie as tie
 abbrev Test : List ℕ → ℕ → ℕ → Bool
 Test bytes start i = ltb 1 (byte_at bytes (start + i))
 
-abbrev invariant-loop : tie.invariant-loop
+abbrev invariant-loop : tie.invariant-loop-i
 invariant-loop bytes start count bad₀ i₀ bad i = (i ≤ count) × (bad ≡ any_below (Test bytes start) i)
 
-abbrev decreases-loop : tie.decreases-loop
+abbrev decreases-loop : tie.decreases-loop-i
 decreases-loop bytes start count bad₀ i₀ bad i = count - i
 
-loop-holds : tie.Need-loop-init invariant-loop decreases-loop
+loop-holds : tie.Need-loop-i-init invariant-loop decreases-loop
 loop-holds c = (omega arith, sym (any_none _))
 
-add-byte-at : tie.Need-overflow-add-byte-at invariant-loop decreases-loop
-add-byte-at c = omega arith
+add-byte_at : tie.Need-overflow_add-start invariant-loop decreases-loop
+add-byte_at c = omega arith
 
-byte-at-requires : tie.Need-byte-at-requires invariant-loop decreases-loop
-byte-at-requires c κs = omega arith
+byte_at-requires : tie.Need-byte_at-requires invariant-loop decreases-loop
+byte_at-requires c κs = omega arith
 
-add-i : tie.Need-overflow-add-i invariant-loop decreases-loop
+add-i : tie.Need-overflow_add-i invariant-loop decreases-loop
 add-i c = omega arith
 
-loop-less : tie.Need-loop-smaller invariant-loop decreases-loop
+loop-less : tie.Need-loop-i-smaller invariant-loop decreases-loop
 loop-less c = omega arith
 
-loop-again : tie.Need-loop-preserved invariant-loop decreases-loop
+loop-again : tie.Need-loop-i-preserved invariant-loop decreases-loop
 unfolding any_below
-loop-again c = (omega arith, rw (add-one, c.before.before.loop.invariant.1, c.byte_at.ensures.0))
+loop-again c = (omega arith, rw (add-one, c.loop-i.invariant.1, c.byte_at.ensures.0))
 
 returns : tie.Need-returns invariant-loop decreases-loop
-returns c = let loop = c.before.loop in loop.invariant.1 ∙ ap (any_below _) (le_antisymm loop.invariant.0 c.loop-test.false)
+returns c = let loop = c.loop-i in loop.invariant.1 ∙ ap (any_below _) (le_antisymm loop.invariant.0 c.loop-i-test.false)
 
-pub bad-mask-spec : {M : Type 1} → statement M
-bad-mask-spec =
-    tie.close (tie.spec invariant-loop decreases-loop loop-holds add-byte-at byte-at-requires add-i loop-less loop-again returns)
+pub bad_mask_spec : {M : Type 1} → statement M
+bad_mask_spec =
+    tie.close (tie.spec invariant-loop decreases-loop loop-holds add-byte_at byte_at-requires add-i loop-less loop-again returns)

@@ -6,25 +6,25 @@ use borrow.Author.Rules.{rules}
 use Rattle.tracks.proofs.bad_speech.Statement.{statement}
 use Rattle.tracks.proofs.bad_speech.Tie as tie
 
-add-u32-at : tie.Need-overflow-add-u32-at
-add-u32-at c = search rules
+add-u32_at : tie.Need-overflow_add-costs
+add-u32_at c = search rules
 
-u32-at-requires : tie.Need-u32-at-requires
-u32-at-requires c κs = omega arith
+u32_at-requires : tie.Need-u32_at-requires
+u32_at-requires c κs = omega arith
 
-add-u32-at-2 : tie.Need-overflow-add-u32-at-2
-add-u32-at-2 c = search rules
+add-u32_at-2 : tie.Need-overflow_add-costs-2
+add-u32_at-2 c = search rules
 
-u32-at-requires-2 : tie.Need-u32-at-requires-2
-u32-at-requires-2 c κs = omega arith
+u32_at-requires-2 : tie.Need-u32_at-requires-2
+u32_at-requires-2 c κs = omega arith
 
-bad-edges-requires : tie.Need-bad-edges-requires
-bad-edges-requires c κs = search rules
+bad_edges-requires : tie.Need-bad_edges-requires
+bad_edges-requires c κs = search rules
 
 returns : tie.Need-returns
-returns c = c.bad-edges.ensures ∙ ap₂ bad_edges c.before.before.u32-at.ensures c.before.u32-at2.ensures
+returns c = c.bad_edges.ensures ∙ ap₂ bad_edges c.u32_at.ensures c.u32_at-2.ensures
 
-pub bad-speech-spec : {M : Type 1} → statement M
-bad-speech-spec =
+pub bad_speech_spec : {M : Type 1} → statement M
+bad_speech_spec =
     tie.close
-    (tie.spec add-u32-at u32-at-requires add-u32-at-2 u32-at-requires-2 bad-edges-requires returns)
+    (tie.spec add-u32_at u32_at-requires add-u32_at-2 u32_at-requires-2 bad_edges-requires returns)

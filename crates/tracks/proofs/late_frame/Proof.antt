@@ -17,37 +17,37 @@ use Rattle.tracks.proofs.late_frame.Tie as tie
 abbrev Test : List ℕ → ℕ → ℕ → Bool
 Test bytes start i = ltb last_frame (u32_at bytes (start + 4 * i))
 
-abbrev invariant-loop : tie.invariant-loop
+abbrev invariant-loop : tie.invariant-loop-i
 invariant-loop bytes start count late₀ i₀ late i = (i ≤ count) × (late ≡ any_below (Test bytes start) i)
 
-abbrev decreases-loop : tie.decreases-loop
+abbrev decreases-loop : tie.decreases-loop-i
 decreases-loop bytes start count late₀ i₀ late i = count - i
 
-loop-holds : tie.Need-loop-init invariant-loop decreases-loop
+loop-holds : tie.Need-loop-i-init invariant-loop decreases-loop
 loop-holds c = (omega arith, sym (any_none _))
 
-mul-u32-at : tie.Need-overflow-mul-u32-at invariant-loop decreases-loop
-mul-u32-at c = omega arith
+mul-u32_at : tie.Need-overflow_mul-i invariant-loop decreases-loop
+mul-u32_at c = omega arith
 
-add-u32-at : tie.Need-overflow-add-u32-at invariant-loop decreases-loop
-add-u32-at c = omega arith
+add-u32_at : tie.Need-overflow_add-start invariant-loop decreases-loop
+add-u32_at c = omega arith
 
-u32-at-requires : tie.Need-u32-at-requires invariant-loop decreases-loop
-u32-at-requires c κs = omega arith
+u32_at-requires : tie.Need-u32_at-requires invariant-loop decreases-loop
+u32_at-requires c κs = omega arith
 
-add-i : tie.Need-overflow-add-i invariant-loop decreases-loop
+add-i : tie.Need-overflow_add-i invariant-loop decreases-loop
 add-i c = omega arith
 
-loop-less : tie.Need-loop-smaller invariant-loop decreases-loop
+loop-less : tie.Need-loop-i-smaller invariant-loop decreases-loop
 loop-less c = omega arith
 
-loop-again : tie.Need-loop-preserved invariant-loop decreases-loop
+loop-again : tie.Need-loop-i-preserved invariant-loop decreases-loop
 unfolding any_below
-loop-again c = (omega arith, rw (add-one, c.before.before.loop.invariant.1, c.u32-at.ensures))
+loop-again c = (omega arith, rw (add-one, c.loop-i.invariant.1, c.u32_at.ensures))
 
 returns : tie.Need-returns invariant-loop decreases-loop
-returns c = let loop = c.before.loop in loop.invariant.1 ∙ ap (any_below _) (le_antisymm loop.invariant.0 c.loop-test.false)
+returns c = let loop = c.loop-i in loop.invariant.1 ∙ ap (any_below _) (le_antisymm loop.invariant.0 c.loop-i-test.false)
 
-pub late-frame-spec : {M : Type 1} → statement M
-late-frame-spec =
-    tie.close (tie.spec invariant-loop decreases-loop loop-holds mul-u32-at add-u32-at u32-at-requires add-i loop-less loop-again returns)
+pub late_frame_spec : {M : Type 1} → statement M
+late_frame_spec =
+    tie.close (tie.spec invariant-loop decreases-loop loop-holds mul-u32_at add-u32_at u32_at-requires add-i loop-less loop-again returns)

@@ -16,59 +16,59 @@ use Rattle.tracks.proofs.unordered.Tie as tie
 abbrev Test : List ℕ → ℕ → ℕ → Bool
 Test bytes start i = leb (u32_at bytes (start + 4 * (i + 1))) (u32_at bytes (start + 4 * i))
 
-abbrev invariant-loop : tie.invariant-loop
+abbrev invariant-loop : tie.invariant-loop-i
 invariant-loop bytes start pairs bad₀ i₀ bad i = (i ≤ pairs) × (bad ≡ any_below (Test bytes start) i)
 
-abbrev decreases-loop : tie.decreases-loop
+abbrev decreases-loop : tie.decreases-loop-i
 decreases-loop bytes start pairs bad₀ i₀ bad i = pairs - i
 
-returns : tie.Need-returns invariant-loop decreases-loop
+returns : tie.Need-returns-then-s-eq0 invariant-loop decreases-loop
 returns c = sym (ap (any_below _) (omega arith) ∙ any_none _)
 
-sub-pairs : tie.Need-overflow-sub-pairs invariant-loop decreases-loop
+sub-pairs : tie.Need-overflow_sub-pairs invariant-loop decreases-loop
 sub-pairs c = omega arith
 
-loop-holds : tie.Need-loop-init invariant-loop decreases-loop
+loop-holds : tie.Need-loop-i-init invariant-loop decreases-loop
 loop-holds c = (omega arith, sym (any_none _))
 
-mul-u32-at : tie.Need-overflow-mul-u32-at invariant-loop decreases-loop
-mul-u32-at c = omega arith
+mul-u32_at : tie.Need-overflow_mul-i invariant-loop decreases-loop
+mul-u32_at c = omega arith
 
-add-u32-at : tie.Need-overflow-add-u32-at invariant-loop decreases-loop
-add-u32-at c = omega arith
+add-u32_at : tie.Need-overflow_add-start invariant-loop decreases-loop
+add-u32_at c = omega arith
 
-u32-at-requires : tie.Need-u32-at-requires invariant-loop decreases-loop
-u32-at-requires c κs = omega arith
+u32_at-requires : tie.Need-u32_at-here-requires invariant-loop decreases-loop
+u32_at-requires c κs = omega arith
 
-add-u32-at-2 : tie.Need-overflow-add-u32-at-2 invariant-loop decreases-loop
-add-u32-at-2 c = omega arith
+add-u32_at-2 : tie.Need-overflow_add-i invariant-loop decreases-loop
+add-u32_at-2 c = omega arith
 
-mul-u32-at-2 : tie.Need-overflow-mul-u32-at-2 invariant-loop decreases-loop
-mul-u32-at-2 c = omega arith
+mul-u32_at-2 : tie.Need-overflow_mul-i-in-loop-i invariant-loop decreases-loop
+mul-u32_at-2 c = omega arith
 
-add-u32-at-3 : tie.Need-overflow-add-u32-at-3 invariant-loop decreases-loop
-add-u32-at-3 c = omega arith
+add-u32_at-3 : tie.Need-overflow_add-start-in-loop-i invariant-loop decreases-loop
+add-u32_at-3 c = omega arith
 
-u32-at-requires-2 : tie.Need-u32-at-requires-2 invariant-loop decreases-loop
-u32-at-requires-2 c κs = omega arith
+u32_at-requires-2 : tie.Need-u32_at-requires invariant-loop decreases-loop
+u32_at-requires-2 c κs = omega arith
 
-add-i : tie.Need-overflow-add-i invariant-loop decreases-loop
+add-i : tie.Need-overflow_add-i-in-loop-i invariant-loop decreases-loop
 add-i c = omega arith
 
-loop-less : tie.Need-loop-smaller invariant-loop decreases-loop
+loop-less : tie.Need-loop-i-smaller invariant-loop decreases-loop
 loop-less c = omega arith
 
-loop-again : tie.Need-loop-preserved invariant-loop decreases-loop
+loop-again : tie.Need-loop-i-preserved invariant-loop decreases-loop
 unfolding any_below
 loop-again c =
-    let loop = c.before.before.before.loop in
-    (omega arith, rw (add-one loop.i, loop.invariant.1, c.before.u32-at.ensures, c.u32-at2.ensures))
+    let loop = c.loop-i in
+    (omega arith, rw (add-one loop.i, loop.invariant.1, c.u32_at-here.ensures, c.u32_at.ensures))
 
-returns-2 : tie.Need-returns-2 invariant-loop decreases-loop
-returns-2 c = let loop = c.before.loop in loop.invariant.1 ∙ ap (any_below _) (le_antisymm loop.invariant.0 c.loop-test.false)
+returns-2 : tie.Need-returns invariant-loop decreases-loop
+returns-2 c = let loop = c.loop-i in loop.invariant.1 ∙ ap (any_below _) (le_antisymm loop.invariant.0 c.loop-i-test.false)
 
-pub unordered-spec : {M : Type 1} → statement M
-unordered-spec =
+pub unordered_spec : {M : Type 1} → statement M
+unordered_spec =
     tie.close
     (tie.spec
     invariant-loop
@@ -76,13 +76,13 @@ unordered-spec =
     returns
     sub-pairs
     loop-holds
-    mul-u32-at
-    add-u32-at
-    u32-at-requires
-    add-u32-at-2
-    mul-u32-at-2
-    add-u32-at-3
-    u32-at-requires-2
+    mul-u32_at
+    add-u32_at
+    u32_at-requires
+    add-u32_at-2
+    mul-u32_at-2
+    add-u32_at-3
+    u32_at-requires-2
     add-i
     loop-less
     loop-again

@@ -20,31 +20,31 @@ list-fits below few = omega arith
 scores-fit : {n : ℕ} → n ≤ 2 * most_anchors * most_count → Fits w64 (4 * n)
 scores-fit below = omega arith
 
-candidate-bytes-requires : tie.Need-candidate-bytes-requires
-candidate-bytes-requires c κs = c.requires.0
+candidate_bytes-requires : tie.Need-candidate_bytes-requires
+candidate_bytes-requires c κs = c.requires.0
 
-mul-candidate-bytes : tie.Need-overflow-mul-candidate-bytes
-mul-candidate-bytes c =
+mul-candidate_bytes : tie.Need-overflow_mul-candidate_bytes
+mul-candidate_bytes c =
     let start = c.before.before in
-    omega (arith, candidates_most start.requires.0 start.requires.1, ap (λ (n : ℕ). n * start.args.t.candidates.count) c.before.candidate-bytes.ensures)
+    omega (arith, candidates_most start.requires.0 start.requires.1, ap (λ (n : ℕ). n * start.args.t.candidates.count) c.candidate_bytes.ensures)
 
-add-score-bytes : tie.Need-overflow-add-score-bytes
-add-score-bytes c = omega arith
+add-score_bytes : tie.Need-overflow_add-score_bytes
+add-score_bytes c = omega arith
 
-mul-score-bytes : tie.Need-overflow-mul-score-bytes
-mul-score-bytes c =
+mul-score_bytes : tie.Need-overflow_mul-score_bytes
+mul-score_bytes c =
     let start = c.before.before.before.before in
     omega (arith, scores_most start.requires.0 start.requires.1)
 
-mul-score-bytes-2 : tie.Need-overflow-mul-score-bytes-2
-mul-score-bytes-2 c =
+mul-score_bytes-2 : tie.Need-overflow_mul-score_bytes-2
+mul-score_bytes-2 c =
     let start = c.before.before.before.before in
     scores-fit (scores_most start.requires.0 start.requires.1)
 
 outside-requires : tie.Need-outside-requires
 outside-requires c κs = tt
 
-mul-outside : tie.Need-overflow-mul-outside
+mul-outside : tie.Need-overflow_mul-t
 mul-outside c =
     let start = c.before.before.before.before.before.before in
     list-fits start.requires.1.nuclei (le_trans start.requires.0.nuclei (lit≤ tt))
@@ -52,7 +52,7 @@ mul-outside c =
 outside-requires-2 : tie.Need-outside-requires-2
 outside-requires-2 c κs = tt
 
-mul-outside-2 : tie.Need-overflow-mul-outside-2
+mul-outside-2 : tie.Need-overflow_mul-t-2
 mul-outside-2 c =
     let start = c.before.before.before.before.before.before.before.before in
     list-fits start.requires.1.boundaries (le_trans start.requires.0.boundaries (lit≤ tt))
@@ -60,7 +60,7 @@ mul-outside-2 c =
 outside-requires-3 : tie.Need-outside-requires-3
 outside-requires-3 c κs = tt
 
-mul-outside-3 : tie.Need-overflow-mul-outside-3
+mul-outside-3 : tie.Need-overflow_mul-t-3
 mul-outside-3 c =
     let start = c.before.before.before.before.before.before.before.before.before.before in
     list-fits start.requires.1.added_anchors (le_trans start.requires.0.anchors (lit≤ tt))
@@ -68,7 +68,7 @@ mul-outside-3 c =
 outside-requires-4 : tie.Need-outside-requires-4
 outside-requires-4 c κs = tt
 
-mul-outside-4 : tie.Need-overflow-mul-outside-4
+mul-outside-4 : tie.Need-overflow_mul-t-4
 mul-outside-4 c =
     let start = c.before.before.before.before.before.before.before.before.before.before.before.before in
     list-fits start.requires.1.added_boundaries (le_trans start.requires.0.boundaries (lit≤ tt))
@@ -90,17 +90,17 @@ unfolding overreaching
 returns c =
     let at4 = c.before.before.before.before.before in
     let at1 = at4.before.before.before.before.before.before in
-    rw (at1.outside.ensures, at4.before.before.before.before.outside2.ensures, at4.before.before.outside3.ensures, at4.outside4.ensures, c.before.before.before.outside5.ensures, c.before.before.outside6.ensures, c.before.outside7.ensures, c.outside8.ensures, at1.before.before.before.before.candidate-bytes.ensures) refl
+    rw (at1.outside.ensures, at4.outside-2.ensures, at4.outside-3.ensures, at4.outside-4.ensures, c.outside-5.ensures, c.outside-6.ensures, c.outside-7.ensures, c.outside-8.ensures, at1.candidate_bytes.ensures) refl
 
-pub overreaching-spec : {M : Type 1} → statement M
-overreaching-spec =
+pub overreaching_spec : {M : Type 1} → statement M
+overreaching_spec =
     tie.close
     (tie.spec
-    candidate-bytes-requires
-    mul-candidate-bytes
-    add-score-bytes
-    mul-score-bytes
-    mul-score-bytes-2
+    candidate_bytes-requires
+    mul-candidate_bytes
+    add-score_bytes
+    mul-score_bytes
+    mul-score_bytes-2
     outside-requires
     mul-outside
     outside-requires-2

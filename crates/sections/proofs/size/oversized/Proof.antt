@@ -8,5 +8,5 @@ returns : tie.Need-returns
 unfolding oversized
 returns c = refl
 
-pub oversized-spec : {M : Type 1} → statement M
-oversized-spec = tie.close (tie.spec returns)
+pub oversized_spec : {M : Type 1} → statement M
+oversized_spec = tie.close (tie.spec returns)
