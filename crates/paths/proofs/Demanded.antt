@@ -39,7 +39,7 @@ module _ (phrase : Phrase) (columns : List ℕ) where
   unfolding NoPath
   conflict pass missing path = missing path.0 path.1 path.2
 
-  first_same : {order : List Pass} {pass other : Pass} → FirstOf phrase columns pass order → FirstOf phrase columns other order
+  first_same : {pass : Pass} {order : List Pass} {other : Pass} → FirstOf phrase columns pass order → FirstOf phrase columns other order
       → pass ≡ other
   first_same (here a) (here b) = refl
   first_same {pass = pass} (here a) (after missing first) = absurd (conflict pass missing a)

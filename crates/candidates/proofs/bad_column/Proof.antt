@@ -18,46 +18,46 @@ use Rattle.candidates.proofs.bad_column.Tie as tie
 abbrev Test : List ℕ → Limits → Layout → ℕ → ℕ → ℕ → Bool
 Test bytes limits at i columns j = leb columns (column_at limits bytes at i j)
 
-abbrev invariant-loop : tie.invariant-loop
+abbrev invariant-loop : tie.invariant-loop-j
 invariant-loop bytes limits at i units columns j₀ j = (j ≤ units) × (any_below (Test bytes limits at i columns) j ≡ false)
 
-abbrev decreases-loop : tie.decreases-loop
+abbrev decreases-loop : tie.decreases-loop-j
 decreases-loop bytes limits at i units columns j₀ j = units - j
 
-units-at-requires : tie.Need-units-at-requires invariant-loop decreases-loop
-units-at-requires c κs = (c.before.requires.0, c.before.requires.1.0)
+units_at-requires : tie.Need-units_at-units-requires invariant-loop decreases-loop
+units_at-requires c κs = (c.requires.0, c.requires.1.0)
 
-loop-holds : tie.Need-loop-init invariant-loop decreases-loop
+loop-holds : tie.Need-loop-j-init invariant-loop decreases-loop
 loop-holds c = (omega arith, any_none _)
 
-column-at-requires : tie.Need-column-at-requires invariant-loop decreases-loop
-column-at-requires c κs =
+column_at-requires : tie.Need-column_at-requires invariant-loop decreases-loop
+column_at-requires c κs =
     let start = c.before.before.before.before in
-    (start.requires.0, (start.requires.1.0, omega (arith, units_most_law start.args.limits start.args.bytes.now start.args.at start.args.i start.requires.1.1, c.before.before.units-at.ensures)))
+    (start.requires.0, (start.requires.1.0, omega (arith, units_most_law start.args.limits start.args.bytes.now start.args.at start.args.i start.requires.1.1, c.units_at-units.ensures)))
 
-returns : tie.Need-returns invariant-loop decreases-loop
+returns : tie.Need-returns-then-column_at-columns invariant-loop decreases-loop
 returns c =
     sym
-    (ap (any_below _) (sym c.before.before.before.before.units-at.ensures)
-    ∙ any_found _ _ _ c.before.before.loop-test.true (ap (leb _) (sym c.before.column-at.ensures) ∙ le-leb _ _ c.if1.true))
+    (ap (any_below _) (sym c.units_at-units.ensures)
+    ∙ any_found _ _ _ c.loop-j-test.true (ap (leb _) (sym c.column_at.ensures) ∙ le-leb _ _ c.if-column_at-columns.true))
 
-add-j : tie.Need-overflow-add-j invariant-loop decreases-loop
-add-j c = omega (arith, c.before.before.before.before.units-at.type-inv)
+add-j : tie.Need-overflow_add-j invariant-loop decreases-loop
+add-j c = omega (arith, c.units_at-units.type_inv)
 
-loop-less : tie.Need-loop-smaller invariant-loop decreases-loop
+loop-less : tie.Need-loop-j-smaller invariant-loop decreases-loop
 loop-less c = omega arith
 
-loop-again : tie.Need-loop-preserved invariant-loop decreases-loop
+loop-again : tie.Need-loop-j-preserved invariant-loop decreases-loop
 loop-again c = (
   omega arith,
-  any_more _ _ c.before.before.before.loop.invariant.1 (ap (leb _) (sym c.before.column-at.ensures) ∙ lt-leb _ _ c.if1.false),
+  any_more _ _ c.loop-j.invariant.1 (ap (leb _) (sym c.column_at.ensures) ∙ lt-leb _ _ c.if-column_at-columns.false),
 )
 
-returns-2 : tie.Need-returns-2 invariant-loop decreases-loop
+returns-2 : tie.Need-returns invariant-loop decreases-loop
 returns-2 c =
-    any_end _ _ _ c.before.loop.invariant.0 c.loop-test.false c.before.loop.invariant.1 ∙ ap (any_below _) c.before.before.units-at.ensures
+    any_end _ _ _ c.loop-j.invariant.0 c.loop-j-test.false c.loop-j.invariant.1 ∙ ap (any_below _) c.units_at-units.ensures
 
-pub bad-column-spec : {M : Type 1} → statement M
-bad-column-spec =
+pub bad_column_spec : {M : Type 1} → statement M
+bad_column_spec =
     tie.close
-    (tie.spec invariant-loop decreases-loop units-at-requires loop-holds column-at-requires returns add-j loop-less loop-again returns-2)
+    (tie.spec invariant-loop decreases-loop units_at-requires loop-holds column_at-requires returns add-j loop-less loop-again returns-2)

@@ -3,11 +3,11 @@ use mathlib.Core.Path.{refl}
 use Rattle.candidates.proofs.bad_units.Statement.{statement}
 use Rattle.candidates.proofs.bad_units.Tie as tie
 
-units-at-requires : tie.Need-units-at-requires
-units-at-requires c κs = c.before.requires
+units_at-requires : tie.Need-units_at-units-requires
+units_at-requires c κs = c.requires
 
 returns : tie.Need-returns
-returns c = rw c.before.units-at.ensures refl
+returns c = rw c.units_at-units.ensures refl
 
-pub bad-units-spec : {M : Type 1} → statement M
-bad-units-spec = tie.close (tie.spec units-at-requires returns)
+pub bad_units_spec : {M : Type 1} → statement M
+bad_units_spec = tie.close (tie.spec units_at-requires returns)

@@ -14,49 +14,49 @@ use Rattle.checks.proofs.check.Tie as tie
 
 -- ---- the places, each from the next one named
 
-abbrev entered : tie.After-check-trailer → tie.Start
+abbrev entered : tie.After-check_trailer-checked → tie.Start
 entered c = c.before.before
 
-abbrev checked : tie.After-checked2 → tie.After-check-trailer
-checked c = c.before.before
+abbrev checked : tie.In-Accepted → tie.After-check_trailer-checked
+checked c = c.before
 
 -- ---- by the trailer
 
-check-trailer-requires : tie.Need-check-trailer-requires
-check-trailer-requires c κs = search rules
+check_trailer-requires : tie.Need-check_trailer-checked-requires
+check_trailer-requires c κs = search rules
 
-enum-known-checked : tie.Need-enum-known-checked
-enum-known-checked c = search rules
+enum_known-checked : tie.Need-enum_known-checked
+enum_known-checked c = search rules
 
-enum-known-checked-2 : tie.Need-enum-known-checked-2
-enum-known-checked-2 c = search rules
+enum_known-checked-2 : tie.Need-enum_known-checked-in-Accepted-1
+enum_known-checked-2 c = search rules
 
-returns : tie.Need-returns
-returns c = trailer_refused _ _ (sym c.before.before.before.check-trailer.ensures ∙ c.before.checked.given.1)
+returns : tie.Need-returns-in-Refused
+returns c = trailer_refused _ _ (sym c.check_trailer-checked.ensures ∙ c.in-Refused.is)
 
 -- ---- by the contents
 
 -- the rules of the trailer refuse nothing, and this is the layout
-silent : (c : tie.After-checked2) → let bytes = (entered (checked c)).args.bytes.now in
-    (first_of (trailer_rules (limits_of bytes) bytes) ≡ none) × (c.checked2.given.0.0 ≡ layout_of bytes)
-silent c = accepts _ _ _ (sym (checked c).check-trailer.ensures ∙ c.checked2.given.1)
+silent : (c : tie.In-Accepted) → let bytes = (entered (checked c)).args.bytes.now in
+    (first_of (trailer_rules (limits_of bytes) bytes) ≡ none) × (c.in-Accepted.at ≡ layout_of bytes)
+silent c = accepts _ _ _ (sym (checked c).check_trailer-checked.ensures ∙ c.in-Accepted.is)
 
-check-contents-requires : tie.Need-check-contents-requires
-check-contents-requires c κs =
-    let found = silent c.before in
+check_contents-requires : tie.Need-check_contents-requires
+check_contents-requires c κs =
+    let found = silent c in
     let reach = in_reach _ found.0 in
     (found.1, (sections_in_reach _ reach found.1, candidates_in_reach _ reach found.1))
 
-returns-2 : tie.Need-returns-2
-returns-2 c = let found = silent c.before.before in c.check-contents.ensures ∙ contents_last _ found.0 found.1
+returns-2 : tie.Need-returns-in-Accepted
+returns-2 c = let found = silent c.before in c.check_contents.ensures ∙ contents_last _ found.0 found.1
 
-pub check-spec : {M : Type 1} → statement M
-check-spec =
+pub check_spec : {M : Type 1} → statement M
+check_spec =
     tie.close
     (tie.spec
-    check-trailer-requires
-    enum-known-checked
-    enum-known-checked-2
-    check-contents-requires
+    check_trailer-requires
+    enum_known-checked
+    enum_known-checked-2
+    check_contents-requires
     returns
     returns-2)

@@ -13,56 +13,56 @@ use borrow.Author.Rules.{rules}
 use Rattle.checks.proofs.check_areas.Statement.{statement}
 use Rattle.checks.proofs.check_areas.Tie as tie
 
-check-requires : tie.Need-check-requires
+check-requires : tie.Need-check-checked-requires
 check-requires c κs = search rules
 
-enum-known-checked : tie.Need-enum-known-checked
-enum-known-checked c = search rules
+enum_known-checked : tie.Need-enum_known-checked
+enum_known-checked c = search rules
 
-enum-known-checked-2 : tie.Need-enum-known-checked-2
-enum-known-checked-2 c = search rules
+enum_known-checked-2 : tie.Need-enum_known-checked-in-Accepted-1
+enum_known-checked-2 c = search rules
 
-limits-of-requires : tie.Need-limits-of-requires
-limits-of-requires c κs = search rules
+limits_of-requires : tie.Need-limits_of-requires
+limits_of-requires c κs = search rules
 
 -- the record is accepted, with this layout
-laid : (c : tie.After-checked2) → Laid c.before.before.before.before.args.bytes.now c.checked2.given.0.0
-laid c = (check_accepts _ _).0 (sym c.before.before.check.ensures ∙ c.checked2.given.1)
+laid : (c : tie.In-Accepted) → Laid c.args.bytes.now c.in-Accepted.at
+laid c = (check_accepts _ _).0 (sym c.check-checked.ensures ∙ c.in-Accepted.is)
 
-short-desk-requires : tie.Need-short-desk-requires
-short-desk-requires c κs =
-    let at = c.before.before.checked2.given.0.0 in (
-      subst⁻¹ Moderate c.Limits-of.ensures (moderate at.edition),
-      subst⁻¹ (λ (l : Limits). at.candidates.count ≤ l.candidates) c.Limits-of.ensures (counts (laid c.before.before)).candidates,
+short_desk-requires : tie.Need-short_desk-requires
+short_desk-requires c κs =
+    let at = c.in-Accepted.at in (
+      subst⁻¹ Moderate c.limits_of.ensures (moderate at.edition),
+      subst⁻¹ (λ (l : Limits). at.candidates.count ≤ l.candidates) c.limits_of.ensures (counts (laid c.before)).candidates,
     )
 
-same : (c : tie.After-short-desk) →
-    let at = c.before.before.before.checked2.given.0.0 in
-    let lent = c.before.before.before.before.before.before.before.args in
-    short_desk (limits_at at) at.candidates.count lent.best lent.back lent.out ≡ c.short-desk.result
+same : (c : tie.After-short_desk) →
+    let at = c.in-Accepted.at in
+    let lent = c.args in
+    short_desk (limits_at at) at.candidates.count lent.best lent.back lent.out ≡ c.short_desk.result
 same c =
-    let at = c.before.before.before.checked2.given.0.0 in
-    let lent = c.before.before.before.before.before.before.before.args in
-    ap (λ (l : Limits). short_desk l at.candidates.count lent.best lent.back lent.out) (sym c.before.Limits-of.ensures) ∙ sym c.short-desk.ensures
+    let at = c.in-Accepted.at in
+    let lent = c.args in
+    ap (λ (l : Limits). short_desk l at.candidates.count lent.best lent.back lent.out) (sym c.limits_of.ensures) ∙ sym c.short_desk.ensures
 
-returns : tie.Need-returns
-returns c = answer_refused _ _ _ _ _ c.before.before.before.check.ensures c.before.checked.given.1
+returns : tie.Need-returns-in-Refused
+returns c = answer_refused _ _ _ _ _ c.check-checked.ensures c.in-Refused.is
 
-returns-2 : tie.Need-returns-2
-returns-2 c = answer_short _ _ _ _ (laid c.before.before.before.before) (same c.before ∙ c.if1.true)
+returns-2 : tie.Need-returns-then-short_desk
+returns-2 c = answer_short _ _ _ _ (laid c.before.before.before) (same c.before ∙ c.if-short_desk.true)
 
-returns-3 : tie.Need-returns-3
-returns-3 c = answer_fine _ _ _ _ (laid c.before.before.before.before) (same c.before ∙ c.if1.false)
+returns-3 : tie.Need-returns-else-short_desk
+returns-3 c = answer_fine _ _ _ _ (laid c.before.before.before) (same c.before ∙ c.if-short_desk.false)
 
-pub check-areas-spec : {M : Type 1} → statement M
-check-areas-spec =
+pub check_areas_spec : {M : Type 1} → statement M
+check_areas_spec =
     tie.close
     (tie.spec
     check-requires
-    enum-known-checked
-    enum-known-checked-2
-    limits-of-requires
-    short-desk-requires
+    enum_known-checked
+    enum_known-checked-2
+    limits_of-requires
+    short_desk-requires
     returns
     returns-2
     returns-3)

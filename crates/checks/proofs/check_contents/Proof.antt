@@ -21,13 +21,13 @@ use Rattle.checks.proofs.check_contents.Tie as tie
 
 -- ---- the places, each from the next one named
 
-abbrev entered : tie.After-bad-track → tie.Start
+abbrev entered : tie.After-bad_track → tie.Start
 entered c = c.before.before
 
-abbrev tracked : tie.After-bad-cost → tie.After-bad-track
+abbrev tracked : tie.After-bad_cost → tie.After-bad_track
 tracked c = c.before.before
 
-abbrev priced : tie.Else3 → tie.After-bad-cost
+abbrev priced : tie.Else-at-eq0 → tie.After-bad_cost
 priced c = c.before.before.before
 
 -- ---- the rules
@@ -49,79 +49,79 @@ answered c e = ap (λ (o : Option Refusal). answer o c.args.at) e
 
 -- ---- 5
 
-bad-track-requires : tie.Need-bad-track-requires
-bad-track-requires c κs = search rules
+bad_track-requires : tie.Need-bad_track-requires
+bad_track-requires c κs = search rules
 
-track : (c : tie.After-bad-track) → bad_track (bytes_of (entered c)) (layout_of (bytes_of (entered c))) ≡ c.bad-track.result
-track c = ap (bad_track _) (sym (entered c).requires.0) ∙ sym c.bad-track.ensures
+track : (c : tie.After-bad_track) → bad_track (bytes_of (entered c)) (layout_of (bytes_of (entered c))) ≡ c.bad_track.result
+track c = ap (bad_track _) (sym (entered c).requires.0) ∙ sym c.bad_track.ensures
 
-returns : tie.Need-returns
+returns : tie.Need-returns-then-bad_track
 unfolding content_rules
-returns c = answered (entered c.before) (gives _ (track c.before ∙ c.if1.true))
+returns c = answered (entered c.before) (gives _ (track c.before ∙ c.if-bad_track.true))
 
-left-5 : (c : tie.Else1) → Left 1 (entered c.before)
+left-5 : (c : tie.Else-bad_track) → Left 1 (entered c.before)
 unfolding content_rules
-left-5 c = leaves _ _ (track c.before ∙ c.if1.false)
+left-5 c = leaves _ _ (track c.before ∙ c.if-bad_track.false)
 
 -- ---- 6
 
-bad-cost-requires : tie.Need-bad-cost-requires
-bad-cost-requires c κs = search rules
+bad_cost-requires : tie.Need-bad_cost-requires
+bad_cost-requires c κs = search rules
 
-cost : (c : tie.After-bad-cost) → let bytes = bytes_of (entered (tracked c)) in bad_cost bytes (layout_of bytes) ≡ c.bad-cost.result
-cost c = ap (bad_cost _) (sym (entered (tracked c)).requires.0) ∙ sym c.bad-cost.ensures
+cost : (c : tie.After-bad_cost) → let bytes = bytes_of (entered (tracked c)) in bad_cost bytes (layout_of bytes) ≡ c.bad_cost.result
+cost c = ap (bad_cost _) (sym (entered (tracked c)).requires.0) ∙ sym c.bad_cost.ensures
 
-returns-2 : tie.Need-returns-2
+returns-2 : tie.Need-returns-then-bad_cost
 unfolding content_rules
-returns-2 c = answered (entered (tracked c.before)) (gives _ (cost c.before ∙ c.if2.true) ∙ left-5 c.before.before)
+returns-2 c = answered (entered (tracked c.before)) (gives _ (cost c.before ∙ c.if-bad_cost.true) ∙ left-5 c.before.before)
 
-left-6 : (c : tie.Else2) → Left 2 (entered (tracked c.before))
+left-6 : (c : tie.Else-bad_cost) → Left 2 (entered (tracked c.before))
 unfolding content_rules
-left-6 c = leaves _ _ (cost c.before ∙ c.if2.false) ∙ left-5 c.before.before
+left-6 c = leaves _ _ (cost c.before ∙ c.if-bad_cost.false) ∙ left-5 c.before.before
 
 -- ---- 7
 
 count : (c : tie.Start) → (layout_of (bytes_of c)).candidates.count ≡ c.args.at.candidates.count
 count c = ap (λ (at : Layout). at.candidates.count) (sym c.requires.0)
 
-returns-3 : tie.Need-returns-3
+returns-3 : tie.Need-returns-then-at-eq0
 unfolding content_rules
 returns-3 c =
     let start = entered (tracked c.before.before.before) in
-    answered start (gives _ (eq-eqb _ 0 (count start ∙ c.if3.true)) ∙ left-6 c.before.before)
+    answered start (gives _ (eq-eqb _ 0 (count start ∙ c.if-at-eq0.true)) ∙ left-6 c.before.before)
 
-left-7 : (c : tie.Else3) → Left 3 (entered (tracked (priced c)))
+left-7 : (c : tie.Else-at-eq0) → Left 3 (entered (tracked (priced c)))
 unfolding content_rules
 left-7 c =
-    leaves _ _ (ne_eqb _ 0 (λ none. c.if3.false (sym (count (entered (tracked (priced c)))) ∙ none))) ∙ left-6 c.before.before
+    leaves _ _ (ne_eqb _ 0 (λ none. c.if-at-eq0.false (sym (count (entered (tracked (priced c)))) ∙ none))) ∙ left-6 c.before.before
 
 -- ---- 8 to 10
 
-limits-of-requires : tie.Need-limits-of-requires
-limits-of-requires c κs = search rules
+limits_of-requires : tie.Need-limits_of-requires
+limits_of-requires c κs = search rules
 
-check-candidates-requires : tie.Need-check-candidates-requires
-check-candidates-requires c κs =
+check_candidates-requires : tie.Need-check_candidates-requires
+check_candidates-requires c κs =
     let start = entered (tracked (priced c.before)) in
-    (subst⁻¹ (λ (l : Limits). CandidatesRead l (length (bytes_of start)) start.args.at) c.Limits-of.ensures start.pre.1.1, start.pre.0)
+    (subst⁻¹ (λ (l : Limits). CandidatesRead l (length (bytes_of start)) start.args.at) c.limits_of.ensures start.requires.1.1, start.requires.0)
 
-returns-4 : tie.Need-returns-4
+returns-4 : tie.Need-returns
 unfolding content_rules
 returns-4 c =
     let start = entered (tracked (priced c.before.before)) in
-    c.check-candidates.ensures
-    ∙ ap (λ (l : Limits). answer (first_of (candidate_rules l (bytes_of start) 0 start.args.at.candidates.count)) start.args.at) c.before.Limits-of.ensures
+    c.check_candidates.ensures
+    ∙ ap (λ (l : Limits). answer (first_of (candidate_rules l (bytes_of start) 0 start.args.at.candidates.count)) start.args.at) c.limits_of.ensures
     ∙ answered start (left-7 c.before.before)
 
-pub check-contents-spec : {M : Type 1} → statement M
-check-contents-spec =
+pub check_contents_spec : {M : Type 1} → statement M
+check_contents_spec =
     tie.close
     (tie.spec
-    bad-track-requires
+    bad_track-requires
     returns
-    bad-cost-requires
+    bad_cost-requires
     returns-2
     returns-3
-    limits-of-requires
-    check-candidates-requires
+    limits_of-requires
+    check_candidates-requires
     returns-4)

@@ -31,10 +31,10 @@ use Rattle.checks.proofs.check_trailer.Tie as tie
 abbrev entered : tie.After-stub → tie.Start
 entered c = c.before.before
 
-abbrev measured : tie.After-limits-of → tie.After-stub
+abbrev measured : tie.After-limits_of-limits → tie.After-stub
 measured c = c.before.before.before
 
-abbrev named : tie.After-oversized → tie.After-limits-of
+abbrev named : tie.After-oversized → tie.After-limits_of-limits
 named c = c.before.before.before
 
 abbrev counted : tie.After-overreaching → tie.After-oversized
@@ -65,47 +65,47 @@ stub-requires c κs = search rules
 is-stub : (c : tie.After-stub) → stub (bytes_of (entered c)) ≡ c.stub.result
 is-stub c = sym c.stub.ensures
 
-returns : tie.Need-returns
+returns : tie.Need-returns-then-stub
 unfolding trailer_rules
-returns c = answered (entered c.before) (gives _ (is-stub c.before ∙ c.if1.true))
+returns c = answered (entered c.before) (gives _ (is-stub c.before ∙ c.if-stub.true))
 
-left-1 : (c : tie.Else1) → Left 1 (entered c.before)
+left-1 : (c : tie.Else-stub) → Left 1 (entered c.before)
 unfolding trailer_rules
-left-1 c = leaves _ _ (is-stub c.before ∙ c.if1.false)
+left-1 c = leaves _ _ (is-stub c.before ∙ c.if-stub.false)
 
-has-trailer : (c : tie.Else1) → trailer_bytes ≤ length (bytes_of (entered c.before))
+has-trailer : (c : tie.Else-stub) → trailer_bytes ≤ length (bytes_of (entered c.before))
 has-trailer c =
     let bytes = bytes_of (entered c.before) in
-    ltb-false _ _ (neither_left (ltb (length bytes) trailer_bytes) (ltb record_bytes (length bytes)) (is-stub c.before ∙ c.if1.false))
+    ltb-false _ _ (neither_left (ltb (length bytes) trailer_bytes) (ltb record_bytes (length bytes)) (is-stub c.before ∙ c.if-stub.false))
 
 -- ---- 2
 
-trailer-of-requires : tie.Need-trailer-of-requires
-trailer-of-requires c κs = has-trailer c
+trailer_of-requires : tie.Need-trailer_of-trailer-requires
+trailer_of-requires c κs = has-trailer c
 
-limits-of-requires : tie.Need-limits-of-requires
-limits-of-requires c κs = search rules
+limits_of-requires : tie.Need-limits_of-limits-requires
+limits_of-requires c κs = search rules
 
 -- the trailer, and the numbers of its edition
-trailer : (c : tie.After-limits-of) → c.before.trailer-of.result ≡ trailer_of (bytes_of (entered (measured c)))
-trailer c = c.before.trailer-of.ensures
+trailer : (c : tie.After-limits_of-limits) → c.trailer_of-trailer.result ≡ trailer_of (bytes_of (entered (measured c)))
+trailer c = c.trailer_of-trailer.ensures
 
-limits : (c : tie.After-limits-of) → c.Limits-of.result ≡ limits_of (bytes_of (entered (measured c)))
-limits c = c.Limits-of.ensures ∙ ap (λ (t : Trailer). numbers_of t.edition) (trailer c)
+limits : (c : tie.After-limits_of-limits) → c.limits_of-limits.result ≡ limits_of (bytes_of (entered (measured c)))
+limits c = c.limits_of-limits.ensures ∙ ap (λ (t : Trailer). numbers_of t.edition) (trailer c)
 
-other-edition-requires : tie.Need-other-edition-requires
-other-edition-requires c κs = search rules
+other_edition-requires : tie.Need-other_edition-requires
+other_edition-requires c κs = search rules
 
-is-other : (c : tie.After-other-edition) → let bytes = bytes_of (entered (measured c.before)) in other_edition (limits_of bytes) (trailer_of bytes) ≡ c.other-edition.result
-is-other c = ap₂ other_edition (sym (limits c.before)) (sym (trailer c.before)) ∙ sym c.other-edition.ensures
+is-other : (c : tie.After-other_edition) → let bytes = bytes_of (entered (measured c.before)) in other_edition (limits_of bytes) (trailer_of bytes) ≡ c.other_edition.result
+is-other c = ap₂ other_edition (sym (limits c.before)) (sym (trailer c.before)) ∙ sym c.other_edition.ensures
 
-returns-2 : tie.Need-returns-2
+returns-2 : tie.Need-returns-then-other_edition
 unfolding trailer_rules
-returns-2 c = answered (entered (measured c.before.before)) (gives _ (is-other c.before ∙ c.if2.true) ∙ left-1 c.before.before.before.before)
+returns-2 c = answered (entered (measured c.before.before)) (gives _ (is-other c.before ∙ c.if-other_edition.true) ∙ left-1 c.before.before.before.before)
 
-left-2 : (c : tie.Else2) → Left 2 (entered (measured c.before.before))
+left-2 : (c : tie.Else-other_edition) → Left 2 (entered (measured c.before.before))
 unfolding trailer_rules
-left-2 c = leaves _ _ (is-other c.before ∙ c.if2.false) ∙ left-1 c.before.before.before.before
+left-2 c = leaves _ _ (is-other c.before ∙ c.if-other_edition.false) ∙ left-1 c.before.before.before.before
 
 -- ---- 3
 
@@ -115,23 +115,23 @@ oversized-requires c κs = search rules
 is-oversized : (c : tie.After-oversized) → let bytes = bytes_of (entered (measured (named c))) in oversized (limits_of bytes) (trailer_of bytes) ≡ c.oversized.result
 is-oversized c = ap₂ oversized (sym (limits (named c))) (sym (trailer (named c))) ∙ sym c.oversized.ensures
 
-returns-3 : tie.Need-returns-3
+returns-3 : tie.Need-returns-then-oversized
 unfolding trailer_rules
-returns-3 c = answered (entered (measured (named c.before))) (gives _ (is-oversized c.before ∙ c.if3.true) ∙ left-2 c.before.before)
+returns-3 c = answered (entered (measured (named c.before))) (gives _ (is-oversized c.before ∙ c.if-oversized.true) ∙ left-2 c.before.before)
 
-left-3 : (c : tie.Else3) → Left 3 (entered (measured (named c.before)))
+left-3 : (c : tie.Else-oversized) → Left 3 (entered (measured (named c.before)))
 unfolding trailer_rules
-left-3 c = leaves _ _ (is-oversized c.before ∙ c.if3.false) ∙ left-2 c.before.before
+left-3 c = leaves _ _ (is-oversized c.before ∙ c.if-oversized.false) ∙ left-2 c.before.before
 
 -- ---- 4
 
-sub-end : tie.Need-overflow-sub-end
+sub-end : tie.Need-overflow_sub-end
 sub-end c = has-trailer (named c.before).before.before
 
 overreaching-requires : tie.Need-overreaching-requires
 overreaching-requires c κs = (
   subst⁻¹ Moderate (limits (named c.before)) (moderate _),
-  sized _ _ (sym c.before.oversized.ensures ∙ c.if3.false),
+  sized _ _ (sym c.oversized.ensures ∙ c.if-oversized.false),
 )
 
 is-overreaching : (c : tie.After-overreaching) →
@@ -141,20 +141,20 @@ is-overreaching c =
     ap₂ (λ (l : Limits) (t : Trailer). overreaching l (trailer_start bytes) t) (sym (limits (named (counted c)))) (sym (trailer (named (counted c))))
     ∙ sym c.overreaching.ensures
 
-returns-4 : tie.Need-returns-4
+returns-4 : tie.Need-returns-then-overreaching
 unfolding trailer_rules
-returns-4 c = answered (entered (measured (named (counted c.before)))) (gives _ (is-overreaching c.before ∙ c.if4.true) ∙ left-3 c.before.before)
+returns-4 c = answered (entered (measured (named (counted c.before)))) (gives _ (is-overreaching c.before ∙ c.if-overreaching.true) ∙ left-3 c.before.before)
 
-left-4 : (c : tie.Else4) → Left 4 (entered (measured (named (counted c.before))))
+left-4 : (c : tie.Else-overreaching) → Left 4 (entered (measured (named (counted c.before))))
 unfolding trailer_rules
-left-4 c = leaves _ _ (is-overreaching c.before ∙ c.if4.false) ∙ left-3 c.before.before
+left-4 c = leaves _ _ (is-overreaching c.before ∙ c.if-overreaching.false) ∙ left-3 c.before.before
 
 -- ---- the layout
 
-laid-out-requires : tie.Need-laid-out-requires
-laid-out-requires c κs = inside _ _ _ (reaching _ _ _ (sym c.before.overreaching.ensures ∙ c.if4.false))
+laid_out-requires : tie.Need-laid_out-requires
+laid_out-requires c κs = inside _ _ _ (reaching _ _ _ (sym c.overreaching.ensures ∙ c.if-overreaching.false))
 
-returns-5 : tie.Need-returns-5
+returns-5 : tie.Need-returns
 unfolding layout_of trailer_rules first_of
 returns-5 c =
     let back = c.before.before in
@@ -162,20 +162,20 @@ returns-5 c =
     ap Accepted (c.laid_out.ensures ∙ ap (layout_from (trailer_start (bytes_of start))) (trailer (named (counted back))))
     ∙ answered start (left-4 c.before)
 
-pub check-trailer-spec : {M : Type 1} → statement M
-check-trailer-spec =
+pub check_trailer_spec : {M : Type 1} → statement M
+check_trailer_spec =
     tie.close
     (tie.spec
     stub-requires
     returns
-    trailer-of-requires
-    limits-of-requires
-    other-edition-requires
+    trailer_of-requires
+    limits_of-requires
+    other_edition-requires
     returns-2
     oversized-requires
     returns-3
     sub-end
     overreaching-requires
     returns-4
-    laid-out-requires
+    laid_out-requires
     returns-5)

@@ -8,24 +8,24 @@ use borrow.Author.Rules.{rules}
 use Rattle.reading.proofs.read.anchors.Statement.{statement}
 use Rattle.reading.proofs.read.anchors.Tie as tie
 
-anchor-section-requires : tie.Need-anchor-section-requires
-anchor-section-requires c κs = search rules
+anchor_section-requires : tie.Need-anchor_section-s-requires
+anchor_section-requires c κs = search rules
 
-copy-frames-requires : tie.Need-copy-frames-requires
-copy-frames-requires c κs =
+copy_frames-requires : tie.Need-copy_frames-requires
+copy_frames-requires c κs =
     let start = c.before.before.before.before in
-    let is = c.before.anchor-section.ensures in
+    let is = c.anchor_section-s.ensures in
     let are = anchors_are start.requires.0 start.args.which in
     (section_within start.args.bytes.now is are (anchors_within start.requires.0 start.args.which), subst (λ (n : ℕ). n ≤ length start.args.out.now) (section_long start.args.bytes.now is are) start.requires.1)
 
-same_length : tie.Need-same-length
+same_length : tie.Need-shape_of-out
 same_length c = search rules
 
 returns : tie.Need-returns
 returns c =
     let start = c.before.before.before.before.before.before.before in
-    section_copied start.args.bytes.now c.before.before.before.before.anchor-section.ensures (anchors_are start.requires.0 start.args.which) c.before.before.copy-frames.ensures
+    section_copied start.args.bytes.now c.anchor_section-s.ensures (anchors_are start.requires.0 start.args.which) c.copy_frames.ensures
 
-pub anchors-spec : {M : Type 1} → statement M
-anchors-spec =
-    tie.close (tie.spec anchor-section-requires copy-frames-requires same_length returns)
+pub anchors_spec : {M : Type 1} → statement M
+anchors_spec =
+    tie.close (tie.spec anchor_section-requires copy_frames-requires same_length returns)

@@ -15,16 +15,16 @@ use borrow.Author.Rules.{rules}
 use Rattle.reading.proofs.read.column.Statement.{statement}
 use Rattle.reading.proofs.read.column.Tie as tie
 
-limits-of-requires : tie.Need-limits-of-requires
-limits-of-requires c κs = search rules
+limits_of-requires : tie.Need-limits_of-requires
+limits_of-requires c κs = search rules
 
-column-at-requires : tie.Need-column-at-requires
-column-at-requires c κs =
+column_at-requires : tie.Need-column_at-requires
+column_at-requires c κs =
     let start = c.before.before in (
-      subst⁻¹ (λ (l : Limits). CandidatesRead l (length start.args.bytes.now) start.args.at) c.Limits-of.ensures (candidates_read start.requires.0),
+      subst⁻¹ (λ (l : Limits). CandidatesRead l (length start.args.bytes.now) start.args.at) c.limits_of.ensures (candidates_read start.requires.0),
       (
         candidate_there start.requires.0 start.requires.1.0,
-        subst⁻¹ (λ (l : Limits). start.args.j < l.units) (c.Limits-of.ensures ∙ laid_limits start.requires.0) (lt_of_lt_of_le start.requires.1.1 ((fit start.requires.0).candidates start.args.i _ start.requires.1.0).few_units),
+        subst⁻¹ (λ (l : Limits). start.args.j < l.units) (c.limits_of.ensures ∙ laid_limits start.requires.0) (lt_of_lt_of_le start.requires.1.1 ((fit start.requires.0).candidates start.args.i _ start.requires.1.0).few_units),
       ),
     )
 
@@ -34,10 +34,10 @@ returns c =
     let columns = column_at (limits_at start.args.at) start.args.bytes.now start.args.at start.args.i in
     let is = candidate_is start.requires.0 start.requires.1.0 in
     let there = subst (λ (n : ℕ). start.args.j < n) (ap (λ (x : Candidate). length x.columns) (sym is) ∙ length_listed columns _) start.requires.1.1 in
-    c.column-at.ensures
-    ∙ ap (λ (l : Limits). column_at l start.args.bytes.now start.args.at start.args.i start.args.j) c.before.Limits-of.ensures
+    c.column_at.ensures
+    ∙ ap (λ (l : Limits). column_at l start.args.bytes.now start.args.at start.args.i start.args.j) c.limits_of.ensures
     ∙ sym (get_d_listed columns _ start.args.j 0 there)
     ∙ ap (λ (x : Candidate). get_or x.columns start.args.j 0) is
 
-pub column-spec : {M : Type 1} → statement M
-column-spec = tie.close (tie.spec limits-of-requires column-at-requires returns)
+pub column_spec : {M : Type 1} → statement M
+column_spec = tie.close (tie.spec limits_of-requires column_at-requires returns)

@@ -19,9 +19,9 @@ use Rattle.reading.proofs.read.costs.Tie as tie
 
 -- the figures are no NaNs
 module _ {bytes : List ℕ} {at : Layout} (h : Laid bytes at) where
-  real-per-frame : T (not (nan_bits binary64 (u64_at bytes at.costs)))
+  real-per_frame : T (not (nan_bits binary64 (u64_at bytes at.costs)))
   unfolding phrase_at
-  real-per-frame = real_bits binary64 _ (within_real (fit_at h).per_frame)
+  real-per_frame = real_bits binary64 _ (within_real (fit_at h).per_frame)
 
   real-insertion : T (not (nan_bits binary64 (u64_at bytes (at.costs + insertion_at))))
   unfolding phrase_at
@@ -31,47 +31,47 @@ module _ {bytes : List ℕ} {at : Layout} (h : Laid bytes at) where
   unfolding phrase_at
   real-unvoiced = real_bits binary32 _ (within_real (fit_at h).unvoiced)
 
-u64-at-requires : tie.Need-u64-at-requires
-u64-at-requires c κs = omega (arith, (sections c.before.requires).costs)
+u64_at-requires : tie.Need-u64_at-requires
+u64_at-requires c κs = omega (arith, (sections c.requires).costs)
 
-float-from-bits-t5 : tie.Need-float-from-bits-t5
-float-from-bits-t5 c = subst⁻¹ (λ (p : ℕ). T (not (nan_bits binary64 p))) c.u64-at.ensures (real-per-frame c.before.before.requires)
+float_from-bits-t5 : tie.Need-float_from_bits-result
+float_from-bits-t5 c = subst⁻¹ (λ (p : ℕ). T (not (nan_bits binary64 p))) c.u64_at.ensures (real-per_frame c.requires)
 
-add-u64-at : tie.Need-overflow-add-u64-at
-add-u64-at c = omega (arith, (sections c.before.before.requires).costs, c.before.before.well-formed.0)
+add-u64_at : tie.Need-overflow_add-start
+add-u64_at c = omega (arith, (sections c.requires).costs, c.well_formed.0)
 
-u64-at-requires-2 : tie.Need-u64-at-requires-2
-u64-at-requires-2 c κs = omega (arith, (sections c.before.before.requires).costs)
+u64_at-requires-2 : tie.Need-u64_at-requires-2
+u64_at-requires-2 c κs = omega (arith, (sections c.requires).costs)
 
-float-from-bits-t8 : tie.Need-float-from-bits-t8
-float-from-bits-t8 c = subst⁻¹ (λ (p : ℕ). T (not (nan_bits binary64 p))) c.u64-at2.ensures (real-insertion c.before.before.before.requires)
+float_from-bits-t8 : tie.Need-float_from_bits-result-2
+float_from-bits-t8 c = subst⁻¹ (λ (p : ℕ). T (not (nan_bits binary64 p))) c.u64_at-2.ensures (real-insertion c.requires)
 
-add-u32-at : tie.Need-overflow-add-u32-at
-add-u32-at c = omega (arith, (sections c.before.before.before.requires).costs, c.before.before.before.well-formed.0)
+add-u32_at : tie.Need-overflow_add-start-2
+add-u32_at c = omega (arith, (sections c.requires).costs, c.well_formed.0)
 
-u32-at-requires : tie.Need-u32-at-requires
-u32-at-requires c κs = omega (arith, (sections c.before.before.before.requires).costs)
+u32_at-requires : tie.Need-u32_at-requires
+u32_at-requires c κs = omega (arith, (sections c.requires).costs)
 
-float-from-bits-t11 : tie.Need-float-from-bits-t11
-float-from-bits-t11 c = subst⁻¹ (λ (p : ℕ). T (not (nan_bits binary32 p))) c.u32-at.ensures (real-unvoiced c.before.before.before.before.requires)
+float_from-bits-t11 : tie.Need-float_from_bits-result-3
+float_from-bits-t11 c = subst⁻¹ (λ (p : ℕ). T (not (nan_bits binary32 p))) c.u32_at.ensures (real-unvoiced c.requires)
 
 returns : tie.Need-returns
 unfolding phrase_at
 returns c =
     let start = c.before.before.before.before in
-    let read : _ ≡ costs_at start.args.bytes.now start.args.at.costs = λ i. record { per_frame = of_bits binary64 (c.before.before.u64-at.ensures i); insertion_llr = of_bits binary64 (c.before.u64-at2.ensures i); unvoiced = of_bits binary32 (c.u32-at.ensures i) } in
+    let read : _ ≡ costs_at start.args.bytes.now start.args.at.costs = λ i. record { per_frame = of_bits binary64 (c.u64_at.ensures i); insertion_llr = of_bits binary64 (c.u64_at-2.ensures i); unvoiced = of_bits binary32 (c.u32_at.ensures i) } in
     read ∙ ap (λ (p : Phrase). p.costs) (meaning start.requires)
 
-pub costs-spec : {M : Type 1} → statement M
-costs-spec =
+pub costs_spec : {M : Type 1} → statement M
+costs_spec =
     tie.close
     (tie.spec
-    u64-at-requires
-    float-from-bits-t5
-    add-u64-at
-    u64-at-requires-2
-    float-from-bits-t8
-    add-u32-at
-    u32-at-requires
-    float-from-bits-t11
+    u64_at-requires
+    float_from-bits-t5
+    add-u64_at
+    u64_at-requires-2
+    float_from-bits-t8
+    add-u32_at
+    u32_at-requires
+    float_from-bits-t11
     returns)

@@ -13,17 +13,17 @@ use borrow.Author.Rules.{rules}
 use Rattle.reading.proofs.read.mask.Statement.{statement}
 use Rattle.reading.proofs.read.mask.Tie as tie
 
-add-end : tie.Need-overflow-add-end
-add-end c = omega (arith, (sections c.before.requires).mask)
+add-end : tie.Need-overflow_add-end
+add-end c = omega (arith, (sections c.requires).mask)
 
-sub_result : tie.Need-overflow-sub-result
+sub_result : tie.Need-slice_bounds-result-count
 sub_result c = search rules
 
-part-result-start : tie.Need-slice-bounds-result-start
+part-result-start : tie.Need-slice_bounds-result-start
 part-result-start c = search rules
 
-part-result-end : tie.Need-slice-bounds-result-end
-part-result-end c = omega (arith, (sections c.before.requires).mask)
+part-result-end : tie.Need-slice_bounds-result-end
+part-result-end c = omega (arith, (sections c.requires).mask)
 
 returns : tie.Need-returns
 unfolding phrase_at
@@ -34,5 +34,5 @@ returns c =
     ∙ part_listed start.args.bytes.now s.start s.count (sections start.requires).mask
     ∙ ap (λ (p : Phrase). p.mask) (meaning start.requires)
 
-pub mask-spec : {M : Type 1} → statement M
-mask-spec = tie.close (tie.spec add-end sub_result part-result-start part-result-end returns)
+pub mask_spec : {M : Type 1} → statement M
+mask_spec = tie.close (tie.spec add-end sub_result part-result-start part-result-end returns)

@@ -11,22 +11,22 @@ use borrow.Author.Rules.{rules}
 use Rattle.reading.proofs.read.score_row.Statement.{statement}
 use Rattle.reading.proofs.read.score_row.Tie as tie
 
-mul-start : tie.Need-overflow-mul-start
-mul-start c = omega (arith, row_within c.before.requires.0 c.before.requires.1, c.before.well-formed.0)
+mul-start : tie.Need-overflow_mul-start
+mul-start c = omega (arith, row_within c.requires.0 c.requires.1, c.well_formed.0)
 
-mul-start-2 : tie.Need-overflow-mul-start-2
-mul-start-2 c = omega (arith, row_within c.before.requires.0 c.before.requires.1, c.before.well-formed.0)
+mul-start-2 : tie.Need-overflow_mul-start-2
+mul-start-2 c = omega (arith, row_within c.requires.0 c.requires.1, c.well_formed.0)
 
-add_start : tie.Need-overflow-add-start
-add_start c = omega (arith, row_within c.before.before.requires.0 c.before.before.requires.1, c.before.before.well-formed.0)
+add_start : tie.Need-overflow_add-start
+add_start c = omega (arith, row_within c.requires.0 c.requires.1, c.well_formed.0)
 
-sub_result : tie.Need-overflow-sub-result
-sub_result c = omega (arith, row_within c.before.before.requires.0 c.before.before.requires.1, c.before.before.well-formed.0)
+sub_result : tie.Need-slice_bounds-result-count
+sub_result c = omega (arith, row_within c.requires.0 c.requires.1, c.well_formed.0)
 
-part-result-start : tie.Need-slice-bounds-result-start
-part-result-start c = omega (arith, row_within c.before.before.requires.0 c.before.before.requires.1, c.before.before.well-formed.0)
+part-result-start : tie.Need-slice_bounds-result-start
+part-result-start c = omega (arith, row_within c.requires.0 c.requires.1, c.well_formed.0)
 
-part-result-end : tie.Need-slice-bounds-result-end
+part-result-end : tie.Need-slice_bounds-result-end
 part-result-end c = search rules
 
 returns : tie.Need-returns
@@ -37,7 +37,7 @@ returns c =
     let part : take (length bytes - from) (drop from bytes) ≡ drop from bytes = take_all _ (drop from bytes) (le_of_eq (length-drop from bytes)) in
     (part, subst⁻¹ (ScoreRow _ _) part (score_row_law start.requires.0 start.requires.1))
 
-pub score-row-spec : {M : Type 1} → statement M
-score-row-spec =
+pub score_row_spec : {M : Type 1} → statement M
+score_row_spec =
     tie.close
     (tie.spec mul-start mul-start-2 add_start sub_result part-result-start part-result-end returns)

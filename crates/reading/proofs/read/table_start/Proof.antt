@@ -6,24 +6,24 @@ use borrow.Author.Rules.{rules}
 use Rattle.reading.proofs.read.table_start.Statement.{statement}
 use Rattle.reading.proofs.read.table_start.Tie as tie
 
-enum_told : tie.Need-enum-told
+enum_told : tie.Need-enum_told-1
 enum_told c = search rules
 
-add_result : tie.Need-overflow-add-result
+add_result : tie.Need-overflow_add-result
 add_result c = search rules
 
-enum-told-2 : tie.Need-enum-told-2
-enum-told-2 c = search rules
+enum_told-2 : tie.Need-enum_told-in-Count
+enum_told-2 c = search rules
 
-add-result-2 : tie.Need-overflow-add-result-2
+add-result-2 : tie.Need-overflow_add-result-in-Count
 add-result-2 c = search rules
 
-returns : tie.Need-returns
-returns c = ap (λ (w : Which). table_start w c.before.before.before.args.at) (sym c.before.enum_told.given.1)
+returns : tie.Need-returns-in-Nuclei
+returns c = ap (λ (w : Which). table_start w c.args.at) (sym c.in-Nuclei.is)
 
-returns-2 : tie.Need-returns-2
-returns-2 c = ap (λ (w : Which). table_start w c.before.before.before.args.at) (sym c.before.enum-told2.given.1)
+returns-2 : tie.Need-returns-in-Count
+returns-2 c = ap (λ (w : Which). table_start w c.args.at) (sym c.in-Count.is)
 
-pub table-start-spec : {M : Type 1} → statement M
-table-start-spec =
-    tie.close (tie.spec enum_told add_result enum-told-2 add-result-2 returns returns-2)
+pub table_start_spec : {M : Type 1} → statement M
+table_start_spec =
+    tie.close (tie.spec enum_told add_result enum_told-2 add-result-2 returns returns-2)

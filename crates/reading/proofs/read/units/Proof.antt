@@ -12,23 +12,23 @@ use borrow.Author.Rules.{rules}
 use Rattle.reading.proofs.read.units.Statement.{statement}
 use Rattle.reading.proofs.read.units.Tie as tie
 
-limits-of-requires : tie.Need-limits-of-requires
-limits-of-requires c κs = search rules
+limits_of-requires : tie.Need-limits_of-requires
+limits_of-requires c κs = search rules
 
-units-at-requires : tie.Need-units-at-requires
-units-at-requires c κs =
+units_at-requires : tie.Need-units_at-requires
+units_at-requires c κs =
     let start = c.before.before in (
-      subst⁻¹ (λ (l : Limits). CandidatesRead l (length start.args.bytes.now) start.args.at) c.Limits-of.ensures (candidates_read start.requires.0),
+      subst⁻¹ (λ (l : Limits). CandidatesRead l (length start.args.bytes.now) start.args.at) c.limits_of.ensures (candidates_read start.requires.0),
       candidate_there start.requires.0 start.requires.1,
     )
 
 returns : tie.Need-returns
 returns c =
     let start = c.before.before.before in
-    c.units-at.ensures
-    ∙ ap (λ (l : Limits). units_at l start.args.bytes.now start.args.at start.args.i) c.before.Limits-of.ensures
+    c.units_at.ensures
+    ∙ ap (λ (l : Limits). units_at l start.args.bytes.now start.args.at start.args.i) c.limits_of.ensures
     ∙ sym (length_listed (column_at (limits_at start.args.at) start.args.bytes.now start.args.at start.args.i) _)
     ∙ ap (λ (x : Candidate). length x.columns) (candidate_is start.requires.0 start.requires.1)
 
-pub units-spec : {M : Type 1} → statement M
-units-spec = tie.close (tie.spec limits-of-requires units-at-requires returns)
+pub units_spec : {M : Type 1} → statement M
+units_spec = tie.close (tie.spec limits_of-requires units_at-requires returns)
