@@ -37,6 +37,7 @@ room {l} m =
     record { frames = omega (arith, m.frames); nuclei = omega (arith, m.nuclei); sums = omega (arith, steps, m.frames, m.nuclei) }
 
 some_anchor : (frames : List ℕ) → T (non_empty frames) → 0 < length frames
+some_anchor [] t = elim t [ ]
 some_anchor (frame ∷ frames) t = omega arith
 
 -- where each column given is below the number of columns, every unit's is, also past the last one, where 0 is read

@@ -13,16 +13,16 @@ use borrow.Author.Rules.{rules}
 use Rattle.stages.proofs.anchors.place_anchors.Statement.{statement}
 use Rattle.stages.proofs.anchors.place_anchors.Tie as tie
 
-keep-anchors-requires : tie.Need-keep-anchors-requires
-keep-anchors-requires c κs = search rules
+keep_anchors-requires : tie.Need-keep_anchors-requires
+keep_anchors-requires c κs = search rules
 
-orderly : (c : tie.Start) → Orderly c.args.mask.now (kept_in c.args.mask.now c.args.first-row c.args.anchors.now)
-orderly c = kept_orderly c.args.mask.now c.args.first-row c.args.anchors.now c.requires.0.0.framed c.requires.0.1
+orderly : (c : tie.Start) → Orderly c.args.mask.now (kept_in c.args.mask.now c.args.first_row c.args.anchors.now)
+orderly c = kept_orderly c.args.mask.now c.args.first_row c.args.anchors.now c.requires.0.0.framed c.requires.0.1
 
-place-boundaries-requires : tie.Need-place-boundaries-requires
-place-boundaries-requires c κs =
-    let start = c.before.before.before.before.before.before.before.before.before.before.before.before.before.before.before in
-    let kept = c.before.before.before.before.before.before.keep-anchors.ensures in (
+place_boundaries-requires : tie.Need-place_boundaries-requires
+place_boundaries-requires c κs =
+    let start = c.before.before.before.before.before.before.before.before.before.before.before.before.before.before in
+    let kept = c.keep_anchors.ensures in (
       (
         array_climbs (orderly start) kept.framed,
         array_ends (orderly start) kept.framed,
@@ -34,36 +34,36 @@ place-boundaries-requires c κs =
       ),
     )
 
-same_length : tie.Need-same-length
+same_length : tie.Need-shape_of-frames
 same_length c = search rules
 
-same-length-2 : tie.Need-same-length-2
-same-length-2 c = search rules
+same_length-2 : tie.Need-shape_of-rows
+same_length-2 c = search rules
 
-same-length-3 : tie.Need-same-length-3
-same-length-3 c = search rules
+same_length-3 : tie.Need-shape_of-places
+same_length-3 c = search rules
 
 returns : tie.Need-returns
 returns c =
     let start =
-    c.before.before.before.before.before.before.before.before.before.before.before.before.before.before.before.before.before.before in
-    let keeping = c.before.before.before.before.before.before.before.before.before.keep-anchors in
+    c.before.before.before.before.before.before.before.before.before.before.before.before.before.before.before.before.before in
+    let keeping = c.keep_anchors in
     let bounds = start.args.bounds.now in
-    let place = place_before keeping.new.1.1.1.0 bounds in record {
+    let place = place_before keeping.new.frames bounds in record {
       framed = keeping.ensures.framed;
       rowed = keeping.ensures.rowed;
       placed =
-          c.before.before.place-boundaries.ensures ∙ ap (written place (length bounds + 1)) start.pre.1.2
+          c.place_boundaries.ensures ∙ ap (written place (length bounds + 1)) start.requires.1.2
           ∙ written_table place (length bounds + 1) most_edges 0;
     }
 
-pub place-anchors-spec : {M : Type 1} → statement M
-place-anchors-spec =
+pub place_anchors_spec : {M : Type 1} → statement M
+place_anchors_spec =
     tie.close
     (tie.spec
-    keep-anchors-requires
-    place-boundaries-requires
+    keep_anchors-requires
+    place_boundaries-requires
     same_length
-    same-length-2
-    same-length-3
+    same_length-2
+    same_length-3
     returns)

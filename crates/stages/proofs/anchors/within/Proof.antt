@@ -5,16 +5,16 @@ use Rattle.paths.specs.Frames.{within_mask}
 use Rattle.stages.proofs.anchors.within.Statement.{statement}
 use Rattle.stages.proofs.anchors.within.Tie as tie
 
-shared-slice-read-result : tie.Need-shared-slice-read-result
-shared-slice-read-result c = search rules
+shared_slice_read-result : tie.Need-bounds-mask-at
+shared_slice_read-result c = search rules
 
-returns : tie.Need-returns
+returns : tie.Need-returns-then-at-mask
 unfolding within_mask
-returns c = simp (lt-ltb _ _ c.before.if1.true)
+returns c = simp (lt-ltb _ _ c.if-at-mask.true)
 
-returns-2 : tie.Need-returns-2
+returns-2 : tie.Need-returns-else-at-mask
 unfolding within_mask
-returns-2 c = simp (le-ltb _ _ c.if1.false)
+returns-2 c = simp (le-ltb _ _ c.if-at-mask.false)
 
-pub within-spec : {M : Type 1} → statement M
-within-spec = tie.close (tie.spec shared-slice-read-result returns returns-2)
+pub within_spec : {M : Type 1} → statement M
+within_spec = tie.close (tie.spec shared_slice_read-result returns returns-2)

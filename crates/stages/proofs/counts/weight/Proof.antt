@@ -4,13 +4,13 @@ use Rattle.paths.specs.Frames.{weight}
 use Rattle.stages.proofs.counts.weight.Statement.{statement}
 use Rattle.stages.proofs.counts.weight.Tie as tie
 
-returns : tie.Need-returns
+returns : tie.Need-returns-then-byte-eq0
 unfolding weight
-returns c = simp (eq-eqb _ _ c.if1.true)
+returns c = simp (eq-eqb _ _ c.if-byte-eq0.true)
 
-returns-2 : tie.Need-returns-2
+returns-2 : tie.Need-returns-else-byte-eq0
 unfolding weight
-returns-2 c = simp (ne_eqb _ _ c.if1.false)
+returns-2 c = simp (ne_eqb _ _ c.if-byte-eq0.false)
 
-pub weight-spec : {M : Type 1} → statement M
-weight-spec = tie.close (tie.spec returns returns-2)
+pub weight_spec : {M : Type 1} → statement M
+weight_spec = tie.close (tie.spec returns returns-2)

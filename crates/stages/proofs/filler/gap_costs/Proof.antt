@@ -6,58 +6,58 @@ use Rattle.stages.specs.Filler.{stretch}
 use Rattle.stages.proofs.filler.gap_costs.Statement.{statement}
 use Rattle.stages.proofs.filler.gap_costs.Tie as tie
 
-abbrev invariant-loop : tie.invariant-loop
+abbrev invariant-loop : tie.invariant-loop-j
 invariant-loop speech nuclei n costs out₀ j₀ out j = Filling ((λ i. stretch costs speech nuclei i (i + 1))) n out₀ out j
 
-abbrev decreases-loop : tie.decreases-loop
+abbrev decreases-loop : tie.decreases-loop-j
 decreases-loop speech nuclei n costs out₀ j₀ out j = n - j
 
-loop-holds : tie.Need-loop-init invariant-loop decreases-loop
-loop-holds c = filling_none c.before.before.before.requires.1
+loop-holds : tie.Need-loop-j-init invariant-loop decreases-loop
+loop-holds c = filling_none c.requires.1
 
-add-stretch-cost : tie.Need-overflow-add-stretch-cost invariant-loop decreases-loop
-add-stretch-cost c = omega arith
+add-stretch_cost : tie.Need-overflow_add-j invariant-loop decreases-loop
+add-stretch_cost c = omega arith
 
-stretch-cost-requires : tie.Need-stretch-cost-requires invariant-loop decreases-loop
-stretch-cost-requires c κs =
+stretch_cost-requires : tie.Need-stretch_cost-requires invariant-loop decreases-loop
+stretch_cost-requires c κs =
     let start = c.before.before.before.before.before in
-    let j = c.before.loop.j in (
-      start.requires.0.0 j (c.before.loop.j + 1) (omega arith) (omega arith),
-      start.requires.0.1 j (c.before.loop.j + 1) (omega arith) (omega arith),
+    let j = c.loop-j.j in (
+      start.requires.0.0 j (c.loop-j.j + 1) (omega arith) (omega arith),
+      start.requires.0.1 j (c.loop-j.j + 1) (omega arith) (omega arith),
     )
 
-mul-out : tie.Need-overflow-mul-out invariant-loop decreases-loop
+mul-out : tie.Need-offset_bounds-out-j invariant-loop decreases-loop
 mul-out c = omega arith
 
-slice-write-out : tie.Need-slice-write-out invariant-loop decreases-loop
-slice-write-out c = omega arith
+slice_write-out : tie.Need-bounds-out-j invariant-loop decreases-loop
+slice_write-out c = omega arith
 
-add-j : tie.Need-overflow-add-j invariant-loop decreases-loop
+add-j : tie.Need-overflow_add-j-in-loop-j invariant-loop decreases-loop
 add-j c = omega arith
 
-loop-less : tie.Need-loop-smaller invariant-loop decreases-loop
+loop-less : tie.Need-loop-j-smaller invariant-loop decreases-loop
 loop-less c = omega arith
 
-loop-again : tie.Need-loop-preserved invariant-loop decreases-loop
-loop-again c = filling_more c.before.before.loop.invariant (omega arith) c.stretch-cost.ensures
+loop-again : tie.Need-loop-j-preserved invariant-loop decreases-loop
+loop-again c = filling_more c.loop-j.invariant (omega arith) c.stretch_cost.ensures
 
-same_length : tie.Need-same-length invariant-loop decreases-loop
-same_length c = c.before.loop.invariant.long
+same_length : tie.Need-shape_of-out invariant-loop decreases-loop
+same_length c = c.loop-j.invariant.long
 
 returns : tie.Need-returns invariant-loop decreases-loop
-returns c = filling_all c.before.loop.invariant (omega arith)
+returns c = filling_all c.loop-j.invariant (omega arith)
 
-pub gap-costs-spec : {M : Type 1} → statement M
-gap-costs-spec =
+pub gap_costs_spec : {M : Type 1} → statement M
+gap_costs_spec =
     tie.close
     (tie.spec
     invariant-loop
     decreases-loop
     loop-holds
-    add-stretch-cost
-    stretch-cost-requires
+    add-stretch_cost
+    stretch_cost-requires
     mul-out
-    slice-write-out
+    slice_write-out
     add-j
     loop-less
     loop-again

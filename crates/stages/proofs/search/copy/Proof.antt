@@ -7,41 +7,41 @@ use Rattle.laws.proofs.Filling.{Filling, filling_none, filling_more, filling_all
 use Rattle.stages.proofs.search.copy.Statement.{statement}
 use Rattle.stages.proofs.search.copy.Tie as tie
 
-abbrev invariant-loop : tie.invariant-loop
+abbrev invariant-loop : tie.invariant-loop-j
 invariant-loop list out₀ j₀ out j = Filling (λ i. get_or list i 0) (length list) out₀ out j
 
-abbrev decreases-loop : tie.decreases-loop
+abbrev decreases-loop : tie.decreases-loop-j
 decreases-loop list out₀ j₀ out j = length list - j
 
-loop-holds : tie.Need-loop-init invariant-loop decreases-loop
+loop-holds : tie.Need-loop-j-init invariant-loop decreases-loop
 loop-holds c = filling_none c.requires
 
-mul-out : tie.Need-overflow-mul-out invariant-loop decreases-loop
+mul-out : tie.Need-offset_bounds-list-j invariant-loop decreases-loop
 mul-out c = omega arith
 
-shared-slice-read-out : tie.Need-shared-slice-read-out invariant-loop decreases-loop
-shared-slice-read-out c = omega arith
+shared_slice_read-out : tie.Need-bounds-list-j invariant-loop decreases-loop
+shared_slice_read-out c = omega arith
 
-mul-out-2 : tie.Need-overflow-mul-out-2 invariant-loop decreases-loop
+mul-out-2 : tie.Need-offset_bounds-out-j invariant-loop decreases-loop
 mul-out-2 c = omega arith
 
-slice-write-out : tie.Need-slice-write-out invariant-loop decreases-loop
-slice-write-out c = omega arith
+slice_write-out : tie.Need-bounds-out-j invariant-loop decreases-loop
+slice_write-out c = omega arith
 
-add-j : tie.Need-overflow-add-j invariant-loop decreases-loop
+add-j : tie.Need-overflow_add-j invariant-loop decreases-loop
 add-j c = omega arith
 
-loop-less : tie.Need-loop-smaller invariant-loop decreases-loop
+loop-less : tie.Need-loop-j-smaller invariant-loop decreases-loop
 loop-less c = omega arith
 
-loop-again : tie.Need-loop-preserved invariant-loop decreases-loop
-loop-again c = filling_more c.before.before.loop.invariant (omega arith) refl
+loop-again : tie.Need-loop-j-preserved invariant-loop decreases-loop
+loop-again c = filling_more c.loop-j.invariant (omega arith) refl
 
-same_length : tie.Need-same-length invariant-loop decreases-loop
-same_length c = c.before.loop.invariant.long
+same_length : tie.Need-shape_of-out invariant-loop decreases-loop
+same_length c = c.loop-j.invariant.long
 
 returns : tie.Need-returns invariant-loop decreases-loop
-returns c = filling_all c.before.loop.invariant (omega arith)
+returns c = filling_all c.loop-j.invariant (omega arith)
 
 pub copy_spec : {M : Type 1} → statement M
 copy_spec =
@@ -51,9 +51,9 @@ copy_spec =
     decreases-loop
     loop-holds
     mul-out
-    shared-slice-read-out
+    shared_slice_read-out
     mul-out-2
-    slice-write-out
+    slice_write-out
     add-j
     loop-less
     loop-again

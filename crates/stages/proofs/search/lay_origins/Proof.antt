@@ -13,23 +13,23 @@ use borrow.Author.Rules.{rules}
 use Rattle.stages.proofs.search.lay_origins.Statement.{statement}
 use Rattle.stages.proofs.search.lay_origins.Tie as tie
 
-slice-aggregate-pick : tie.Need-slice-aggregate-pick
-slice-aggregate-pick c = search rules
+slice_aggregate-pick : tie.Need-slice_bounds-pick-end
+slice_aggregate-pick c = search rules
 
 pick-requires : tie.Need-pick-requires
 pick-requires c κs = search rules
 
-sub-pick : tie.Need-overflow-sub-pick
+sub-pick : tie.Need-slice_bounds-pick-count
 sub-pick c = search rules
 
-part-pick-start : tie.Need-slice-bounds-pick-start
+part-pick-start : tie.Need-slice_bounds-pick-start
 part-pick-start c = search rules
 
-part-pick-end : tie.Need-slice-bounds-pick-end
+part-pick-end : tie.Need-slice_bounds-pick-end-2
 part-pick-end c = search rules
 
-slice-aggregate-pick-2 : tie.Need-slice-aggregate-pick-2
-slice-aggregate-pick-2 c = search rules
+slice_aggregate-pick-2 : tie.Need-slice_bounds-pick-end-3
+slice_aggregate-pick-2 c = search rules
 
 pick-requires-2 : tie.Need-pick-requires-2
 pick-requires-2 c κs =
@@ -41,16 +41,16 @@ pick-requires-2 c κs =
       start.requires.1.short,
     )
 
-slice-aggregate-lay-ranges : tie.Need-slice-aggregate-lay-ranges
-slice-aggregate-lay-ranges c = search rules
+slice_aggregate-lay_ranges : tie.Need-slice_bounds-lay_ranges-end
+slice_aggregate-lay_ranges c = search rules
 
-slice-aggregate-lay-ranges-2 : tie.Need-slice-aggregate-lay-ranges-2
-slice-aggregate-lay-ranges-2 c = search rules
+slice_aggregate-lay_ranges-2 : tie.Need-slice_bounds-lay_ranges-end-2
+slice_aggregate-lay_ranges-2 c = search rules
 
-lay-ranges-requires : tie.Need-lay-ranges-requires
-lay-ranges-requires c κs = search rules
+lay_ranges-requires : tie.Need-lay_ranges-requires
+lay_ranges-requires c κs = search rules
 
-same_length : tie.Need-same-length
+same_length : tie.Need-shape_of-words
 same_length c = search rules
 
 returns : tie.Need-returns
@@ -67,24 +67,24 @@ returns c =
     ∙ written_at (λ i. entry_of frames (place i)) n (replicate most_boundaries 0) 0 j h)
     (λ j h.
     let next : 1 + place j ≡ place j + 1 = omega arith in
-    ap (λ (l : List ℕ). entry_of l j) second.pick2.ensures
+    ap (λ (l : List ℕ). entry_of l j) second.pick-2.ensures
     ∙ written_at (λ i. entry_of rest (place i)) n (replicate most_boundaries 0) 0 j h ∙ rest_at 1 frames (place j) 0
     ∙ ap (entry_of frames) next)
-    c.before.before.lay-ranges.ensures
+    c.lay_ranges.ensures
 
-pub lay-origins-spec : {M : Type 1} → statement M
-lay-origins-spec =
+pub lay_origins_spec : {M : Type 1} → statement M
+lay_origins_spec =
     tie.close
     (tie.spec
-    slice-aggregate-pick
+    slice_aggregate-pick
     pick-requires
     sub-pick
     part-pick-start
     part-pick-end
-    slice-aggregate-pick-2
+    slice_aggregate-pick-2
     pick-requires-2
-    slice-aggregate-lay-ranges
-    slice-aggregate-lay-ranges-2
-    lay-ranges-requires
+    slice_aggregate-lay_ranges
+    slice_aggregate-lay_ranges-2
+    lay_ranges-requires
     same_length
     returns)
