@@ -5,7 +5,7 @@ use mathlib.Core.Path.{◌≡◌, refl, ap, ◌∙◌}
 use native.Mathlib.Omega.{arith}
 use lib.ListN.{length, length-map, length-replicate}
 use Rattle.frames.specs.declared.span.Span.{Span}
-use Rattle.clip.specs.Clip.{Placed, reported, report_after}
+use Rattle.clip.specs.Clip.{Placed, report, reported, report_after}
 use Rattle.phrase.specs.Phrase.{Phrase, Stage}
 use Rattle.paths.specs.Path.{Bounds, units_of}
 use Rattle.paths.specs.Anchors.{Anchor}
@@ -17,7 +17,7 @@ use Rattle.decoding.specs.EntryOf.{units_for}
 length_report_after : (low : ℕ) (units : List Placed) → length (report_after low units) ≡ length units
 unfolding report_after
 length_report_after low [] = refl
-length_report_after low (unit ∷ later) = ap suc (length_report_after _ later)
+length_report_after low (unit ∷ later) = ap suc (length_report_after (report low unit later).end later)
 
 pub length_reported : (units : List Placed) → length (reported units) ≡ length units
 unfolding reported

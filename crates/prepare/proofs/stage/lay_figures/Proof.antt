@@ -21,67 +21,67 @@ use Rattle.prepare.proofs.stage.lay_figures.Statement.{statement}
 use Rattle.prepare.proofs.stage.lay_figures.Tie as tie
 
 -- from where the costs are read to the reading of the nuclei, and to the function's entry
-abbrev reading : tie.After-costs → tie.After-anchors
+abbrev reading : tie.After-costs → tie.After-anchors-n
 reading c = c.before.before.before.before
 
 abbrev entry : tie.After-costs → tie.Start
 entry c = (reading c).before.before.before.before.before
 
 inserted : (c : tie.After-costs)
-    → take (reading c).anchors.result (reading c).anchors.new.1.1.1.0 ≡ (phrase_of (entry c).args.bytes.now).nuclei.anchors
-inserted c = copied_front (reading c).anchors.ensures
+    → take (reading c).anchors-n.result (reading c).anchors-n.new.out ≡ (phrase_of (entry c).args.bytes.now).nuclei.anchors
+inserted c = copied_front (reading c).anchors-n.ensures
 
-slice-aggregate-anchors : tie.Need-slice-aggregate-anchors
-slice-aggregate-anchors c = search rules
+slice_aggregate-anchors : tie.Need-slice_bounds-anchors-end
+slice_aggregate-anchors c = search rules
 
-anchors-requires : tie.Need-anchors-requires
+anchors-requires : tie.Need-anchors-n-requires
 anchors-requires c κs = let start = c.before.before.before.before in (start.requires.0, few_anchors_law start.requires.0 Nuclei)
 
 mask-requires : tie.Need-mask-requires
 mask-requires c κs = search rules
 
-array-share-prefix-nuclei : tie.Need-array-share-prefix-nuclei
-array-share-prefix-nuclei c = copied_within c.before.before.anchors.ensures
+array_share-prefix-nuclei : tie.Need-slice_bounds-nuclei-end
+array_share-prefix-nuclei c = copied_within c.anchors-n.ensures
 
-slice-aggregate-lay-filler : tie.Need-slice-aggregate-lay-filler
-slice-aggregate-lay-filler c = copied_counted c.before.before.before.anchors.ensures
+slice_aggregate-lay_filler : tie.Need-slice_bounds-lay_filler-end
+slice_aggregate-lay_filler c = copied_counted c.anchors-n.ensures
 
 costs-requires : tie.Need-costs-requires
 costs-requires c κs = search rules
 
-sub-lay-filler : tie.Need-overflow-sub-lay-filler
-sub-lay-filler c = search rules
+sub-lay_filler : tie.Need-slice_bounds-lay_filler-count
+sub-lay_filler c = search rules
 
-part-lay-filler-start : tie.Need-slice-bounds-lay-filler-start
-part-lay-filler-start c = search rules
+part-lay_filler-start : tie.Need-slice_bounds-lay_filler-start
+part-lay_filler-start c = search rules
 
-part-lay-filler-end : tie.Need-slice-bounds-lay-filler-end
-part-lay-filler-end c = search rules
+part-lay_filler-end : tie.Need-slice_bounds-lay_filler-end-2
+part-lay_filler-end c = search rules
 
-lay-filler-requires : tie.Need-lay-filler-requires
-lay-filler-requires c κs =
+lay_filler-requires : tie.Need-lay_filler-requires
+lay_filler-requires c κs =
     let costs = c.before in
     let start = entry costs in
-    let h = start.pre.0 in
+    let h = start.requires.0 in
     let figures = start.args.figures.now in (
-      read_fit h start.args.which costs.before.before.mask.ensures start.pre.1.1.0,
+      read_fit h start.args.which costs.mask.ensures start.requires.1.1.0,
       read_listed h Nuclei (inserted costs),
-      length-take-le filler_long figures (omega (arith, start.pre.1.1.1)),
+      length-take-le filler_long figures (omega (arith, start.requires.1.1.1)),
     )
 
-sub-lay-durations : tie.Need-overflow-sub-lay-durations
-sub-lay-durations c = search rules
+sub-lay_durations : tie.Need-slice_bounds-lay_durations-count
+sub-lay_durations c = search rules
 
-part-lay-durations-start : tie.Need-slice-bounds-lay-durations-start
-part-lay-durations-start c = search rules
+part-lay_durations-start : tie.Need-slice_bounds-lay_durations-start
+part-lay_durations-start c = search rules
 
-part-lay-durations-end : tie.Need-slice-bounds-lay-durations-end
-part-lay-durations-end c = search rules
+part-lay_durations-end : tie.Need-slice_bounds-lay_durations-end
+part-lay_durations-end c = search rules
 
-lay-durations-requires : tie.Need-lay-durations-requires
-lay-durations-requires c κs = search rules
+lay_durations-requires : tie.Need-lay_durations-requires
+lay_durations-requires c κs = search rules
 
-same_length : tie.Need-same-length
+same_length : tie.Need-shape_of-figures
 same_length c = search rules
 
 returns : tie.Need-returns
@@ -90,18 +90,18 @@ returns c =
     let start = entry costs in
     let stage = stage_of start.args.which (phrase_of start.args.bytes.now) in
     let figures = start.args.figures.now in
-    let filler = c.before.before.before.before.before.before.lay-filler in
-    let timing = c.before.before.lay-durations in
-    let p = filler.new.1.1.1.1.0 in
-    let q = timing.new.1.1.1.0 in
-    let long : length figures ≡ filler_long + durations = start.pre.1.1.1 in
-    let p-long : length p ≡ filler_long = filler.auto.1.1.1.1.0 ∙ length-take-le filler_long figures (omega arith) in
+    let filler = c.lay_filler in
+    let timing = c.lay_durations in
+    let p = filler.new.figures in
+    let q = timing.new.out in
+    let long : length figures ≡ filler_long + durations = start.requires.1.1.1 in
+    let p-long : length p ≡ filler_long = filler.auto.figures ∙ length-take-le filler_long figures (omega arith) in
     let timed = length_table (λ (i : ℕ). stage.duration (i + shortest_unit)) durations durations no_cost (omega arith) in
     let q-long : length q ≡ durations = ap length timing.ensures ∙ timed in
-    let masked = costs.before.before.mask.ensures in
+    let masked = costs.mask.ensures in
     let there =
     coe 0 1
-    (i. Fills (costs.costs.ensures i) (masked i) (kept_in (masked i) 0 (inserted costs i)) (start.pre.1.1.0 i)
+    (i. Fills (costs.costs.ensures i) (masked i) (kept_in (masked i) 0 (inserted costs i)) (start.requires.1.1.0 i)
     (table_at starts_at p) (table_at gaps_at p) (table_at stops_at p)) filler.ensures in record {
       fills = record {
         started = in_front filler_long durations figures p q long p-long q-long starts_at most_boundaries (omega arith) ∙ there.started;
@@ -113,23 +113,23 @@ returns c =
       whole = both_long filler_long durations figures p q long p-long q-long;
     }
 
-pub lay-figures-spec : {M : Type 1} → statement M
-lay-figures-spec =
+pub lay_figures_spec : {M : Type 1} → statement M
+lay_figures_spec =
     tie.close
     (tie.spec
-    slice-aggregate-anchors
+    slice_aggregate-anchors
     anchors-requires
     mask-requires
-    array-share-prefix-nuclei
-    slice-aggregate-lay-filler
+    array_share-prefix-nuclei
+    slice_aggregate-lay_filler
     costs-requires
-    sub-lay-filler
-    part-lay-filler-start
-    part-lay-filler-end
-    lay-filler-requires
-    sub-lay-durations
-    part-lay-durations-start
-    part-lay-durations-end
-    lay-durations-requires
+    sub-lay_filler
+    part-lay_filler-start
+    part-lay_filler-end
+    lay_filler-requires
+    sub-lay_durations
+    part-lay_durations-start
+    part-lay_durations-end
+    lay_durations-requires
     same_length
     returns)

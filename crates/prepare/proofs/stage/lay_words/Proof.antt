@@ -22,82 +22,82 @@ use borrow.Author.Rules.{rules}
 use Rattle.prepare.proofs.stage.lay_words.Statement.{statement}
 use Rattle.prepare.proofs.stage.lay_words.Tie as tie
 
-abbrev entry : tie.After-place-anchors → tie.Start
+abbrev entry : tie.After-place_anchors → tie.Start
 entry c = c.before.before.before.before.before.before.before.before
 
 abbrev kept_of : tie.Start → List Anchor
-kept_of c = kept_in c.args.mask.now c.args.first-row c.args.anchors.now
+kept_of c = kept_in c.args.mask.now c.args.first_row c.args.anchors.now
 
-placing : (c : tie.After-place-anchors) →
+placing : (c : tie.After-place_anchors) →
     let start = entry c in
-    Placing start.args.mask.now (kept_of start) c.place-anchors.new.1.1.1.1.0 start.args.bounds.now
-    c.place-anchors.new.1.1.1.1.1.1.0
+    Placing start.args.mask.now (kept_of start) c.place_anchors.new.frames start.args.bounds.now
+    c.place_anchors.new.places
 placing c =
     let start = entry c in record {
-      orderly = kept_orderly start.args.mask.now start.args.first-row start.args.anchors.now start.pre.0.0.framed
-          start.pre.0.1;
-      framed = c.place-anchors.ensures.framed;
-      fit = start.pre.0.0;
-      small = λ j. omega (arith, c.before.before.before.before.before.shared-slice-known3.given j);
-      placed = c.place-anchors.ensures.placed;
+      orderly = kept_orderly start.args.mask.now start.args.first_row start.args.anchors.now start.requires.0.0.framed
+          start.requires.0.1;
+      framed = c.place_anchors.ensures.framed;
+      fit = start.requires.0.0;
+      small = λ j. omega (arith, c.shared_slice_known-3-1.given j);
+      placed = c.place_anchors.ensures.placed;
     }
 
-slice-aggregate-place-anchors : tie.Need-slice-aggregate-place-anchors
-slice-aggregate-place-anchors c = search rules
+slice_aggregate-place_anchors : tie.Need-slice_bounds-place_anchors-end
+slice_aggregate-place_anchors c = search rules
 
-slice-aggregate-place-anchors-2 : tie.Need-slice-aggregate-place-anchors-2
-slice-aggregate-place-anchors-2 c = search rules
+slice_aggregate-place_anchors-2 : tie.Need-slice_bounds-place_anchors-end-2
+slice_aggregate-place_anchors-2 c = search rules
 
-slice-aggregate-place-anchors-3 : tie.Need-slice-aggregate-place-anchors-3
-slice-aggregate-place-anchors-3 c = search rules
+slice_aggregate-place_anchors-3 : tie.Need-slice_bounds-place_anchors-end-3
+slice_aggregate-place_anchors-3 c = search rules
 
-place-anchors-requires : tie.Need-place-anchors-requires
-place-anchors-requires c κs = search rules
+place_anchors-requires : tie.Need-place_anchors-requires
+place_anchors-requires c κs = search rules
 
-slice-aggregate-lay-search : tie.Need-slice-aggregate-lay-search
-slice-aggregate-lay-search c = search rules
+slice_aggregate-lay_search : tie.Need-slice_bounds-lay_search-end
+slice_aggregate-lay_search c = search rules
 
-slice-aggregate-lay-search-2 : tie.Need-slice-aggregate-lay-search-2
-slice-aggregate-lay-search-2 c = search rules
+slice_aggregate-lay_search-2 : tie.Need-slice_bounds-lay_search-end-2
+slice_aggregate-lay_search-2 c = search rules
 
-slice-aggregate-lay-search-3 : tie.Need-slice-aggregate-lay-search-3
-slice-aggregate-lay-search-3 c = search rules
+slice_aggregate-lay_search-3 : tie.Need-slice_bounds-lay_search-end-3
+slice_aggregate-lay_search-3 c = search rules
 
-lay-search-requires : tie.Need-lay-search-requires
-lay-search-requires c κs =
+lay_search-requires : tie.Need-lay_search-requires
+lay_search-requires c κs =
     let placed = c.before.before.before.before.before.before.before in
     let pre = (entry placed).requires in
-    (reads_within (placing placed), reads_rows (placing placed) placed.place-anchors.ensures.rowed, pre.0.0.listed, pre.1.1)
+    (reads_within (placing placed), reads_rows (placing placed) placed.place_anchors.ensures.rowed, pre.0.0.listed, pre.1.1)
 
-slice-aggregate-lay-spans : tie.Need-slice-aggregate-lay-spans
-slice-aggregate-lay-spans c = search rules
+slice_aggregate-lay_spans : tie.Need-slice_bounds-lay_spans-end
+slice_aggregate-lay_spans c = search rules
 
-slice-aggregate-lay-spans-2 : tie.Need-slice-aggregate-lay-spans-2
-slice-aggregate-lay-spans-2 c = search rules
+slice_aggregate-lay_spans-2 : tie.Need-slice_bounds-lay_spans-end-2
+slice_aggregate-lay_spans-2 c = search rules
 
-sub-lay-spans : tie.Need-overflow-sub-lay-spans
-sub-lay-spans c = search rules
+sub-lay_spans : tie.Need-slice_bounds-lay_spans-count
+sub-lay_spans c = search rules
 
-part-lay-spans-start : tie.Need-slice-bounds-lay-spans-start
-part-lay-spans-start c = search rules
+part-lay_spans-start : tie.Need-slice_bounds-lay_spans-start
+part-lay_spans-start c = search rules
 
-part-lay-spans-end : tie.Need-slice-bounds-lay-spans-end
-part-lay-spans-end c = search rules
+part-lay_spans-end : tie.Need-slice_bounds-lay_spans-end-3
+part-lay_spans-end c = search rules
 
-lay-spans-requires : tie.Need-lay-spans-requires
-lay-spans-requires c κs =
+lay_spans-requires : tie.Need-lay_spans-requires
+lay_spans-requires c κs =
     let placed = c.before.before.before.before.before.before.before.before.before.before.before.before.before in
     let start = entry placed in
     let anchors = start.args.anchors.now in (
-      (start.pre.0.1, start.pre.1.0, start.pre.0.0.listed),
+      (start.requires.0.1, start.requires.1.0, start.requires.0.0.listed),
       (
-        rows_within anchors start.args.first-row (placing placed) placed.place-anchors.ensures.rowed
-            (kept_listed start.args.mask.now start.args.first-row anchors),
-        c.before.before.before.before.before.lay-search.ensures.spare,
+        rows_within anchors start.args.first_row (placing placed) placed.place_anchors.ensures.rowed
+            (kept_listed start.args.mask.now start.args.first_row anchors),
+        c.lay_search.ensures.spare,
       ),
     )
 
-same_length : tie.Need-same-length
+same_length : tie.Need-shape_of-words
 same_length c = search rules
 
 returns : tie.Need-returns
@@ -107,16 +107,16 @@ returns c =
     let start = entry placed in
     let anchors = start.args.anchors.now in
     let bounds = start.args.bounds.now in
-    let first = start.args.first-row in
-    let lo = start.args.lo-edge in
-    let hi = start.args.hi-edge in
-    let rowed = placed.place-anchors.ensures.rowed in
-    let rows = placed.place-anchors.last.1.1.1.1.1.0 in
-    let place = entry_of placed.place-anchors.last.1.1.1.1.1.1.0 in
-    let lays = c.before.before.before.before.before.before.before.before.lay-search.ensures in
-    let words = c.before.before.before.before.before.before.before.before.lay-search.new.1.1.1.1.0 in
-    let laid = c.before.before.lay-spans.ensures in
-    let spans = c.before.before.lay-spans.new.1.1.1.1.1.1.1.0 in
+    let first = start.args.first_row in
+    let lo = start.args.lo_edge in
+    let hi = start.args.hi_edge in
+    let rowed = placed.place_anchors.ensures.rowed in
+    let rows = placed.place_anchors.new.rows in
+    let place = entry_of placed.place_anchors.new.places in
+    let lays = c.lay_search.ensures in
+    let words = c.lay_search.new.words in
+    let laid = c.lay_spans.ensures in
+    let spans = c.lay_spans.new.words in
     let all = kept_listed start.args.mask.now first anchors in
     let last : ℕ → Span = λ j. listed_span anchors bounds lo hi (last_of (before (kept_of start) (get_or bounds j 0))) in
     let span : ℕ → Span = λ i. span_of anchors bounds lo hi (entry_of anchors i) in record {
@@ -130,23 +130,23 @@ returns c =
       whole = with_spans_long words spans lays.whole laid.whole;
     }
 
-pub lay-words-spec : {M : Type 1} → statement M
-lay-words-spec =
+pub lay_words_spec : {M : Type 1} → statement M
+lay_words_spec =
     tie.close
     (tie.spec
-    slice-aggregate-place-anchors
-    slice-aggregate-place-anchors-2
-    slice-aggregate-place-anchors-3
-    place-anchors-requires
-    slice-aggregate-lay-search
-    slice-aggregate-lay-search-2
-    slice-aggregate-lay-search-3
-    lay-search-requires
-    slice-aggregate-lay-spans
-    slice-aggregate-lay-spans-2
-    sub-lay-spans
-    part-lay-spans-start
-    part-lay-spans-end
-    lay-spans-requires
+    slice_aggregate-place_anchors
+    slice_aggregate-place_anchors-2
+    slice_aggregate-place_anchors-3
+    place_anchors-requires
+    slice_aggregate-lay_search
+    slice_aggregate-lay_search-2
+    slice_aggregate-lay_search-3
+    lay_search-requires
+    slice_aggregate-lay_spans
+    slice_aggregate-lay_spans-2
+    sub-lay_spans
+    part-lay_spans-start
+    part-lay_spans-end
+    lay_spans-requires
     same_length
     returns)

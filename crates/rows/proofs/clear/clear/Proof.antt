@@ -27,59 +27,59 @@ record Clearing (best₀ : List Float) (back₀ : List ℕ) (cells : ℕ) (best 
   values : best ≡ replicate at (of_bits binary64 0) ++ drop at best₀
   marks : back ≡ replicate at 0 ++ drop at back₀
 
-abbrev invariant-loop : tie.invariant-loop
+abbrev invariant-loop : tie.invariant-loop-at
 invariant-loop best₀ back₀ cells at₀ best back at = Clearing best₀ back₀ cells best back at
 
-abbrev decreases-loop : tie.decreases-loop
+abbrev decreases-loop : tie.decreases-loop-at
 decreases-loop best₀ back₀ cells at₀ best back at = cells - at
 
-loop-holds : tie.Need-loop-init invariant-loop decreases-loop
+loop-holds : tie.Need-loop-at-init invariant-loop decreases-loop
 loop-holds c = record { bounded = omega arith; valued = refl; marked = refl; values = refl; marks = refl }
 
-mul-best : tie.Need-overflow-mul-best invariant-loop decreases-loop
+mul-best : tie.Need-offset_bounds-best-at invariant-loop decreases-loop
 mul-best c = omega arith
 
-slice-write-best : tie.Need-slice-write-best invariant-loop decreases-loop
-slice-write-best c = omega arith
+slice_write-best : tie.Need-bounds-best-at invariant-loop decreases-loop
+slice_write-best c = omega arith
 
-mul-back : tie.Need-overflow-mul-back invariant-loop decreases-loop
+mul-back : tie.Need-offset_bounds-back-at invariant-loop decreases-loop
 mul-back c = omega arith
 
-slice-write-back : tie.Need-slice-write-back invariant-loop decreases-loop
-slice-write-back c = omega arith
+slice_write-back : tie.Need-bounds-back-at invariant-loop decreases-loop
+slice_write-back c = omega arith
 
-add_at : tie.Need-overflow-add-at invariant-loop decreases-loop
+add_at : tie.Need-overflow_step-at invariant-loop decreases-loop
 add_at c = omega arith
 
-loop-less : tie.Need-loop-smaller invariant-loop decreases-loop
+loop-less : tie.Need-loop-at-smaller invariant-loop decreases-loop
 loop-less c = omega arith
 
-loop-again : tie.Need-loop-preserved invariant-loop decreases-loop
+loop-again : tie.Need-loop-at-preserved invariant-loop decreases-loop
 loop-again c =
-    let was = c.before.loop.invariant in
-    let a = c.before.before.args in
-    let at = c.before.loop.at in
+    let was = c.loop-at.invariant in
+    let a = c.args in
+    let at = c.loop-at.at in
     record {
       bounded = omega arith;
-      valued = length-set c.before.loop.best at (of_bits binary64 0) ∙ was.valued;
-      marked = length-set c.before.loop.back at 0 ∙ was.marked;
+      valued = length-set c.loop-at.best at (of_bits binary64 0) ∙ was.valued;
+      marked = length-set c.loop-at.back at 0 ∙ was.marked;
       values =
           ap (λ (l : List Float). set l at (of_bits binary64 0)) was.values
           ∙ filled_more at (of_bits binary64 0) a.best.now (omega arith);
       marks = ap (λ (l : List ℕ). set l at 0) was.marks ∙ filled_more at 0 a.back.now (omega arith);
     }
 
-same_length : tie.Need-same-length invariant-loop decreases-loop
-same_length c = c.before.loop.invariant.valued
+same_length : tie.Need-shape_of-best invariant-loop decreases-loop
+same_length c = c.loop-at.invariant.valued
 
-same-length-2 : tie.Need-same-length-2 invariant-loop decreases-loop
-same-length-2 c = c.before.loop.invariant.marked
+same_length-2 : tie.Need-shape_of-back invariant-loop decreases-loop
+same_length-2 c = c.loop-at.invariant.marked
 
 returns : tie.Need-returns invariant-loop decreases-loop
 returns c =
-    let was = c.before.loop.invariant in
-    let a = c.before.before.args in
-    let all : c.before.loop.at ≡ a.cells = omega arith in (
+    let was = c.loop-at.invariant in
+    let a = c.args in
+    let all : c.loop-at.at ≡ a.cells = omega arith in (
       was.values ∙ ap (λ (n : ℕ). replicate n (of_bits binary64 0) ++ drop n a.best.now) all,
       was.marks ∙ ap (λ (n : ℕ). replicate n 0 ++ drop n a.back.now) all,
     )
@@ -92,12 +92,12 @@ clear_spec =
     decreases-loop
     loop-holds
     mul-best
-    slice-write-best
+    slice_write-best
     mul-back
-    slice-write-back
+    slice_write-back
     add_at
     loop-less
     loop-again
     same_length
-    same-length-2
+    same_length-2
     returns)

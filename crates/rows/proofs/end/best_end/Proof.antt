@@ -75,28 +75,28 @@ record Ending (best stop : List Float) (n since : ℕ) (end : End) (j : ℕ) : T
       ReachedFrom cells n since →
       best_of higher_end j (stopping q cells) ≡ held (ended_by end)
 
-abbrev invariant-loop : tie.invariant-loop
+abbrev invariant-loop : tie.invariant-loop-j
 invariant-loop best stop n since end₀ j₀ end j = Ending best stop n since end j
 
-abbrev decreases-loop : tie.decreases-loop
+abbrev decreases-loop : tie.decreases-loop-j
 decreases-loop best stop n since end₀ j₀ end j = n - j
 
-mul-t7 : tie.Need-overflow-mul-t7 invariant-loop decreases-loop
+mul-t7 : tie.Need-offset_bounds-best-since invariant-loop decreases-loop
 mul-t7 c = omega arith
 
-shared-slice-read-t9 : tie.Need-shared-slice-read-t9 invariant-loop decreases-loop
-shared-slice-read-t9 c = omega arith
+shared_slice_read-t9 : tie.Need-bounds-best-since invariant-loop decreases-loop
+shared_slice_read-t9 c = omega arith
 
-mul-t10 : tie.Need-overflow-mul-t10 invariant-loop decreases-loop
+mul-t10 : tie.Need-offset_bounds-stop-since invariant-loop decreases-loop
 mul-t10 c = omega arith
 
-shared-slice-read-t12 : tie.Need-shared-slice-read-t12 invariant-loop decreases-loop
-shared-slice-read-t12 c = omega arith
+shared_slice_read-t12 : tie.Need-bounds-stop-since invariant-loop decreases-loop
+shared_slice_read-t12 c = omega arith
 
-add-j : tie.Need-overflow-add-j invariant-loop decreases-loop
+add-j : tie.Need-overflow_step-j invariant-loop decreases-loop
 add-j c = omega arith
 
-loop-holds : tie.Need-loop-init invariant-loop decreases-loop
+loop-holds : tie.Need-loop-j-init invariant-loop decreases-loop
 loop-holds c =
     let start = c.before.before.before.before in
     record {
@@ -105,64 +105,64 @@ loop-holds c =
       chosen = λ q stops back cells row reach. first-end stops start.args.best.now back row reach start.requires.0;
     }
 
-mul-t15 : tie.Need-overflow-mul-t15 invariant-loop decreases-loop
+mul-t15 : tie.Need-offset_bounds-best-j invariant-loop decreases-loop
 mul-t15 c = omega arith
 
-shared-slice-read-t17 : tie.Need-shared-slice-read-t17 invariant-loop decreases-loop
-shared-slice-read-t17 c = omega arith
+shared_slice_read-t17 : tie.Need-bounds-best-j invariant-loop decreases-loop
+shared_slice_read-t17 c = omega arith
 
-mul-t18 : tie.Need-overflow-mul-t18 invariant-loop decreases-loop
+mul-t18 : tie.Need-offset_bounds-stop-j invariant-loop decreases-loop
 mul-t18 c = omega arith
 
-shared-slice-read-t20 : tie.Need-shared-slice-read-t20 invariant-loop decreases-loop
-shared-slice-read-t20 c = omega arith
+shared_slice_read-t20 : tie.Need-bounds-stop-j invariant-loop decreases-loop
+shared_slice_read-t20 c = omega arith
 
-or-requires : tie.Need-or-requires invariant-loop decreases-loop
+or-requires : tie.Need-or-end-requires invariant-loop decreases-loop
 or-requires c κs = search rules
 
-add-j-2 : tie.Need-overflow-add-j-2 invariant-loop decreases-loop
+add-j-2 : tie.Need-overflow_step-j-in-loop-j invariant-loop decreases-loop
 add-j-2 c = omega arith
 
-loop-less : tie.Need-loop-smaller invariant-loop decreases-loop
+loop-less : tie.Need-loop-j-smaller invariant-loop decreases-loop
 loop-less c = omega arith
 
-loop-again : tie.Need-loop-preserved invariant-loop decreases-loop
+loop-again : tie.Need-loop-j-preserved invariant-loop decreases-loop
 loop-again c =
     let start = c.before.before.before.before.before.before.before.before.before in
-    let l = c.before.before.before.before.loop in
-    let turning = c.before.before.before.loop-test.true in
+    let l = c.loop-j in
+    let turning = c.loop-j-test.true in
     record {
       begun = omega (arith, l.invariant.begun);
       bounded = omega arith;
       chosen = λ q stops back cells row reach.
           one_more stops start.args.best.now back row reach l.j l.end turning (omega (arith, l.invariant.begun))
           (l.invariant.chosen q stops back cells row reach)
-          ∙ ap (λ (e : End). held (ended_by e)) (sym c.or.ensures);
+          ∙ ap (λ (e : End). held (ended_by e)) (sym c.or-end.ensures);
     }
 
 returns : tie.Need-returns invariant-loop decreases-loop
 returns c q stops back cells row reach =
-    let l = c.before.loop in
+    let l = c.loop-j in
     sym (l.invariant.chosen q stops back cells row reach)
-    ∙ ap (λ (m : ℕ). best_of higher_end m (stopping q cells)) (omega (arith, stops.sized, l.invariant.bounded, c.loop-test.false))
+    ∙ ap (λ (m : ℕ). best_of higher_end m (stopping q cells)) (omega (arith, stops.sized, l.invariant.bounded, c.loop-j-test.false))
     ∙ chosen_is q cells
 
-pub best-end-spec : {M : Type 1} → statement M
-best-end-spec =
+pub best_end_spec : {M : Type 1} → statement M
+best_end_spec =
     tie.close
     (tie.spec
     invariant-loop
     decreases-loop
     mul-t7
-    shared-slice-read-t9
+    shared_slice_read-t9
     mul-t10
-    shared-slice-read-t12
+    shared_slice_read-t12
     add-j
     loop-holds
     mul-t15
-    shared-slice-read-t17
+    shared_slice_read-t17
     mul-t18
-    shared-slice-read-t20
+    shared_slice_read-t20
     or-requires
     add-j-2
     loop-less

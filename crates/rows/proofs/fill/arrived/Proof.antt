@@ -36,14 +36,14 @@ module _ (best : List Float) (words : List ℕ) (figures : List Float) (score : 
   kept_is bare voice first anchored result rest b v f a r e = e ∙ rw (r, a, f, v, b)
 
 -- what is known before the branch, and from there the function's entry
-abbrev entry : tie.After-shared-slice-known6 → tie.Start
+abbrev entry : tie.After-shared_slice_known-6-1 → tie.Start
 entry c = c.before.before.before.before.before.before
 
 -- the score of those that come first in the range
 voice-is :
-    (c : tie.Joined1) →
+    (c : tie.Joined-low-middle) →
     let a = (entry c.before).args in
-    c.if1.voice
+    c.if-low-middle.voice
     ≡ cond (ltb a.low (get_or a.words.now (middles_at + a.j) 0)) (score_read a.bytes.now a.words.now a.column a.j)
     a.costs.«unvoiced»
 voice-is c =
@@ -53,58 +53,58 @@ voice-is c =
     ⊎_elim
     (λ w. w.2 ∙ w.1.ensures ∙ sym (ap (λ (b : Bool). cond b score a.costs.«unvoiced») (lt-ltb a.low middle w.0.taken)))
     (λ w. w.2 ∙ w.1.ensures ∙ sym (ap (λ (b : Bool). cond b score a.costs.«unvoiced») (le-ltb a.low middle w.0.left)))
-    c.if1.branch
+    c.if-low-middle.branch
 
-mul-to : tie.Need-overflow-mul-to
+mul-to : tie.Need-offset_bounds-words-j
 mul-to c = search rules
 
-shared-slice-read-to : tie.Need-shared-slice-read-to
-shared-slice-read-to c = search rules
+shared_slice_read-to : tie.Need-bounds-words-j
+shared_slice_read-to c = search rules
 
-add-middle : tie.Need-overflow-add-middle
+add-middle : tie.Need-overflow_add-middle
 add-middle c = search rules
 
-mul-middle : tie.Need-overflow-mul-middle
+mul-middle : tie.Need-offset_bounds-words-j-2
 mul-middle c = search rules
 
-shared-slice-read-middle : tie.Need-shared-slice-read-middle
-shared-slice-read-middle c = search rules
+shared_slice_read-middle : tie.Need-bounds-words-j-2
+shared_slice_read-middle c = search rules
 
-cast-middle : tie.Need-overflow-cast-middle
+cast-middle : tie.Need-overflow_cast-middle
 cast-middle c = search rules
 
-score-at-requires : tie.Need-score-at-requires
-score-at-requires c κs =
+score_at-requires : tie.Need-score_at-voice-requires
+score_at-requires c κs =
     let start = entry c.before in
-    (start.pre.1.0.0, start.pre.0.0.worded, start.pre.0.1, start.pre.0.2)
+    (start.requires.1.0.0, start.requires.0.0.worded, start.requires.0.1, start.requires.0.2)
 
-unanchored-requires : tie.Need-unanchored-requires
+unanchored-requires : tie.Need-unanchored-voice-requires
 unanchored-requires c κs = search rules
 
-unit-from-requires : tie.Need-unit-from-requires
-unit-from-requires c κs =
+unit_from-requires : tie.Need-unit_from-first-requires
+unit_from-requires c κs =
     let start = entry c.before in
-    start.pre.1.1 start.args.low (le_refl start.args.low) start.pre.0.3
+    start.requires.1.1 start.args.low (le_refl start.args.low) start.requires.0.3
 
-add-next : tie.Need-overflow-add-next
+add-next : tie.Need-overflow_add-next
 add-next c = search rules
 
-units-from-requires : tie.Need-units-from-requires
-units-from-requires c κs i h k =
+units_from-requires : tie.Need-units_from-anchored-requires
+units_from-requires c κs i h k =
     let start = entry c.before.before in
-    start.pre.1.1 i (omega arith) (omega (arith, start.pre.1.0.1))
+    start.requires.1.1 i (omega arith) (omega (arith, start.requires.1.0.1))
 
-larger-requires : tie.Need-larger-requires
+larger-requires : tie.Need-larger-rest-requires
 larger-requires c κs = search rules
 
-unanchored-requires-2 : tie.Need-unanchored-requires-2
+unanchored-requires-2 : tie.Need-unanchored-requires
 unanchored-requires-2 c κs = search rules
 
-units-from-requires-2 : tie.Need-units-from-requires-2
-units-from-requires-2 c κs i h k =
+units_from-requires-2 : tie.Need-units_from-requires
+units_from-requires-2 c κs i h k =
     let larger = c.before in
     let start = entry larger.before.before.before.before in
-    start.pre.1.1 i (omega (arith, larger.larger.ensures)) k
+    start.requires.1.1 i (omega (arith, larger.larger-rest.ensures)) k
 
 returns : tie.Need-returns
 returns c =
@@ -116,25 +116,25 @@ returns c =
     let a = (entry joined.before).args in
     kept_is a.best.now a.words.now a.figures.now (score_read a.bytes.now a.words.now a.column a.j) a.costs
     a.j a.low a.end _ _ _ _ _ _
-    bare.unanchored2.ensures (voice-is joined) first.unit-from.ensures anchored.units-from.ensures larger.larger.ensures
-    c.units-from2.ensures
+    bare.unanchored.ensures (voice-is joined) first.unit_from-first.ensures anchored.units_from-anchored.ensures larger.larger-rest.ensures
+    c.units_from.ensures
 
-pub arrived-spec : {M : Type 1} → statement M
-arrived-spec =
+pub arrived_spec : {M : Type 1} → statement M
+arrived_spec =
     tie.close
     (tie.spec
     mul-to
-    shared-slice-read-to
+    shared_slice_read-to
     add-middle
     mul-middle
-    shared-slice-read-middle
+    shared_slice_read-middle
     cast-middle
-    score-at-requires
+    score_at-requires
     unanchored-requires
-    unit-from-requires
+    unit_from-requires
     add-next
-    units-from-requires
+    units_from-requires
     larger-requires
     unanchored-requires-2
-    units-from-requires-2
+    units_from-requires-2
     returns)

@@ -97,19 +97,19 @@ filled-all {t} {n} {before} {since} {best₀} {back₀} {best} {back} {j = j} wa
         sweep_none (marks q) (arrivals q s cells) i
         (λ k l. arrivals_none before of best₀ back₀ row reach k (omega arith) (begins.none k (omega arith) (omega arith)))
 
-abbrev invariant-loop : tie.invariant-loop
+abbrev invariant-loop : tie.invariant-loop-j
 invariant-loop best₀ back₀ bytes at words figures column costs strictness n before since last₀ j₀ best back last j =
     Filling (row_tables n words figures (score_read bytes words column) costs strictness) n before since best₀ back₀ best back last j
 
-abbrev decreases-loop : tie.decreases-loop
+abbrev decreases-loop : tie.decreases-loop-j
 decreases-loop best₀ back₀ bytes at words figures column costs strictness n before since last₀ j₀ best back last j = n - j
 
-loop-holds : tie.Need-loop-init invariant-loop decreases-loop
+loop-holds : tie.Need-loop-j-init invariant-loop decreases-loop
 loop-holds c =
-    let a = c.before.before.before.before.before.args in
+    let a = c.args in
     record {
       begun = le_refl a.since;
-      bounded = c.before.before.before.before.before.requires.1.1.bounded;
+      bounded = c.requires.1.1.bounded;
       valued = refl;
       marked = refl;
       done = λ q s gaps of cells row reach i h k l. absurd (omega arith);
@@ -118,63 +118,63 @@ loop-holds c =
       above = λ at h. same_refl a.best.now a.back.now at;
     }
 
-cell-requires : tie.Need-cell-requires invariant-loop decreases-loop
+cell-requires : tie.Need-cell-kept-requires invariant-loop decreases-loop
 cell-requires c κs =
-    let start = c.before.before.before.before.before.before.before.before in
-    let l = c.before.before.loop in
-    (start.requires.0, (omega (arith, start.requires.1.0.0, l.invariant.valued), l.invariant.begun, c.before.loop-test.true, start.requires.1.1))
+    let start = c.before.before.before.before.before.before.before in
+    let l = c.loop-j in
+    (start.requires.0, (omega (arith, start.requires.1.0.0, l.invariant.valued), l.invariant.begun, c.loop-j-test.true, start.requires.1.1))
 
-value-requires : tie.Need-value-requires invariant-loop decreases-loop
+value-requires : tie.Need-value-last-requires invariant-loop decreases-loop
 value-requires c κs = search rules
 
-add-best : tie.Need-overflow-add-best invariant-loop decreases-loop
+add-best : tie.Need-overflow_add-best invariant-loop decreases-loop
 add-best c = omega arith
 
-mul-best : tie.Need-overflow-mul-best invariant-loop decreases-loop
+mul-best : tie.Need-offset_bounds-best-n invariant-loop decreases-loop
 mul-best c = omega arith
 
-slice-write-best : tie.Need-slice-write-best invariant-loop decreases-loop
-slice-write-best c = omega arith
+slice_write-best : tie.Need-bounds-best-n invariant-loop decreases-loop
+slice_write-best c = omega arith
 
 mark-requires : tie.Need-mark-requires invariant-loop decreases-loop
-mark-requires c κs = c.before.cell.ensures.markable
+mark-requires c κs = c.cell-kept.ensures.markable
 
-add_back : tie.Need-overflow-add-back invariant-loop decreases-loop
+add_back : tie.Need-overflow_add-back invariant-loop decreases-loop
 add_back c = omega arith
 
-mul-back : tie.Need-overflow-mul-back invariant-loop decreases-loop
+mul-back : tie.Need-offset_bounds-back-n invariant-loop decreases-loop
 mul-back c = omega arith
 
-slice-write-back : tie.Need-slice-write-back invariant-loop decreases-loop
-slice-write-back c = omega arith
+slice_write-back : tie.Need-bounds-back-n invariant-loop decreases-loop
+slice_write-back c = omega arith
 
-add-j : tie.Need-overflow-add-j invariant-loop decreases-loop
+add-j : tie.Need-overflow_step-j invariant-loop decreases-loop
 add-j c = omega arith
 
-loop-less : tie.Need-loop-smaller invariant-loop decreases-loop
+loop-less : tie.Need-loop-j-smaller invariant-loop decreases-loop
 loop-less c = omega arith
 
-loop-again : tie.Need-loop-preserved invariant-loop decreases-loop
+loop-again : tie.Need-loop-j-preserved invariant-loop decreases-loop
 loop-again c =
-    let start = c.before.before.before.before.before.before.before.before.before.before.before in
-    let l = c.before.before.before.before.before.loop in
-    turned l.invariant c.before.before.before.before.loop-test.true start.requires.1.0.0 start.requires.1.0.1
-    c.before.before.cell.result c.before.before.cell.ensures c.before.value.result c.mark.result
-    c.before.value.ensures c.mark.ensures
+    let start = c.before.before.before.before.before.before.before.before.before.before in
+    let l = c.loop-j in
+    turned l.invariant c.loop-j-test.true start.requires.1.0.0 start.requires.1.0.1
+    c.cell-kept.result c.cell-kept.ensures c.value-last.result c.mark.result
+    c.value-last.ensures c.mark.ensures
 
-same_length : tie.Need-same-length invariant-loop decreases-loop
-same_length c = c.before.loop.invariant.valued
+same_length : tie.Need-shape_of-best invariant-loop decreases-loop
+same_length c = c.loop-j.invariant.valued
 
-same-length-2 : tie.Need-same-length-2 invariant-loop decreases-loop
-same-length-2 c = c.before.loop.invariant.marked
+same_length-2 : tie.Need-shape_of-back invariant-loop decreases-loop
+same_length-2 c = c.loop-j.invariant.marked
 
 returns : tie.Need-returns invariant-loop decreases-loop
 returns c =
     let start = c.before.before.before.before.before.before.before in
-    filled-all c.before.loop.invariant c.loop-test.false start.requires.1.1 start.requires.1.0.2
+    filled-all c.loop-j.invariant c.loop-j-test.false start.requires.1.1 start.requires.1.0.2
 
-pub fill-row-spec : {M : Type 1} → statement M
-fill-row-spec =
+pub fill_row_spec : {M : Type 1} → statement M
+fill_row_spec =
     tie.close
     (tie.spec
     invariant-loop
@@ -184,14 +184,14 @@ fill-row-spec =
     value-requires
     add-best
     mul-best
-    slice-write-best
+    slice_write-best
     mark-requires
     add_back
     mul-back
-    slice-write-back
+    slice_write-back
     add-j
     loop-less
     loop-again
     same_length
-    same-length-2
+    same_length-2
     returns)

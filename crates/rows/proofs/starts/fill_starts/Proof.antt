@@ -72,10 +72,10 @@ module _ {figures : List Float} {n : ℕ} {best₀ : List Float} {back₀ : List
       let place : starts_at + j ≡ j = omega arith in
       rw (← starts j more, table_at_law starts_at figures j nan (omega arith), place)
 
-  first-row :
+  first_row :
       (q : Problem) → StartsOf q (table_at starts_at figures) n → j ≡ 0 → rows q (marks q) 0 j ≡ held (marked_by (start_way figures j))
   unfolding rows sweep
-  first-row q starts e = subst (λ (i : ℕ). rows q (marks q) 0 i ≡ held ((marks q).fresh i)) (sym e) refl ∙ starts-at q starts
+  first_row q starts e = subst (λ (i : ℕ). rows q (marks q) 0 i ≡ held ((marks q).fresh i)) (sym e) refl ∙ starts-at q starts
 
   later-row :
       (q : Problem) → StartsOf q (table_at starts_at figures) n → GapsOf q (table_at gaps_at figures) n → 0 < j →
@@ -111,44 +111,44 @@ module _ {figures : List Float} {n : ℕ} {best₀ : List Float} {back₀ : List
       rest = λ at h. same_trans (was.rest at (omega arith)) (beside at (λ e. omega arith));
     }
 
-abbrev invariant-loop : tie.invariant-loop
+abbrev invariant-loop : tie.invariant-loop-j
 invariant-loop best₀ back₀ figures n j₀ best back j = Started figures n best₀ back₀ best back j
 
-abbrev decreases-loop : tie.decreases-loop
+abbrev decreases-loop : tie.decreases-loop-j
 decreases-loop best₀ back₀ figures n j₀ best back j = n - j
 
 -- what is kept at a boundary: the start at the first, and at a later one the start or the gap
 kept-way :
-    (c : tie.Joined1 invariant-loop decreases-loop) →
-    let a = c.before.before.before.before.before.before.before.args in
-    let l = c.before.before.before.loop in
-    ((l.j ≡ 0) × (c.if1.auto ≡ start_way a.figures.now l.j))
-    ⊎ ((0 < l.j) × (c.if1.auto ≡ or_later (start_way a.figures.now l.j) (gap_way l.best a.figures.now l.j)))
+    (c : tie.Joined-j-gt0 invariant-loop decreases-loop) →
+    let a = c.args in
+    let l = c.loop-j in
+    ((l.j ≡ 0) × (c.if-j-gt0.auto ≡ start_way a.figures.now l.j))
+    ⊎ ((0 < l.j) × (c.if-j-gt0.auto ≡ or_later (start_way a.figures.now l.j) (gap_way l.best a.figures.now l.j)))
 unfolding start_way gap_way
-kept-way c = ⊎_elim (λ w. inr (w.0.taken, w.4 ∙ w.3.ensures)) (λ w. inl (omega (arith, w.0.left), w.1)) c.if1.branch
+kept-way c = ⊎_elim (λ w. inr (w.0.taken, w.4 ∙ w.3.ensures)) (λ w. inl (omega (arith, w.0.left), w.1)) c.if-j-gt0.branch
 
-kept_markable : (c : tie.Joined1 invariant-loop decreases-loop) → Markable c.if1.auto
+kept_markable : (c : tie.Joined-j-gt0 invariant-loop decreases-loop) → Markable c.if-j-gt0.auto
 unfolding start_way gap_way
 kept_markable c =
     ⊎_elim (λ w. subst Markable (sym w.1) (omega arith)) (λ w. subst Markable (sym w.1) (or_markable _ _ (omega arith) (omega arith)))
     (kept-way c)
 
 kept_row :
-    (c : tie.Joined1 invariant-loop decreases-loop) →
-    let a = c.before.before.before.before.before.before.before.args in
+    (c : tie.Joined-j-gt0 invariant-loop decreases-loop) →
+    let a = c.args in
     (q : Problem) → StartsOf q (table_at starts_at a.figures.now) a.n → GapsOf q (table_at gaps_at a.figures.now) a.n →
-    rows q (marks q) 0 c.before.before.before.loop.j ≡ held (marked_by c.if1.auto)
+    rows q (marks q) 0 c.loop-j.j ≡ held (marked_by c.if-j-gt0.auto)
 kept_row c q starts gaps =
     let start = c.before.before.before.before.before.before.before in
-    let l = c.before.before.before.loop in
-    let turning = c.before.before.loop-test.true in
-    ⊎_elim (λ w. first-row start.requires.2 l.invariant turning q starts w.0 ∙ ap (λ (way : Way). held (marked_by way)) (sym w.1))
+    let l = c.loop-j in
+    let turning = c.loop-j-test.true in
+    ⊎_elim (λ w. first_row start.requires.2 l.invariant turning q starts w.0 ∙ ap (λ (way : Way). held (marked_by way)) (sym w.1))
     (λ w. later-row start.requires.2 l.invariant turning q starts gaps w.0 ∙ ap (λ (way : Way). held (marked_by way)) (sym w.1))
     (kept-way c)
 
-loop-holds : tie.Need-loop-init invariant-loop decreases-loop
+loop-holds : tie.Need-loop-j-init invariant-loop decreases-loop
 loop-holds c =
-    let a = c.before.before.before.args in
+    let a = c.args in
     record {
       bounded = omega arith;
       valued = refl;
@@ -157,108 +157,108 @@ loop-holds c =
       rest = λ at h. same_refl a.best.now a.back.now at;
     }
 
-mul-best : tie.Need-overflow-mul-best invariant-loop decreases-loop
+mul-best : tie.Need-offset_bounds-figures-j invariant-loop decreases-loop
 mul-best c = omega arith
 
-shared-slice-read-best : tie.Need-shared-slice-read-best invariant-loop decreases-loop
-shared-slice-read-best c = omega arith
+shared_slice_read-best : tie.Need-bounds-figures-j invariant-loop decreases-loop
+shared_slice_read-best c = omega arith
 
-sub-t11 : tie.Need-overflow-sub-t11 invariant-loop decreases-loop
+sub-t11 : tie.Need-overflow_sub-j invariant-loop decreases-loop
 sub-t11 c = omega arith
 
-mul-t12 : tie.Need-overflow-mul-t12 invariant-loop decreases-loop
+mul-t12 : tie.Need-offset_bounds-best-j invariant-loop decreases-loop
 mul-t12 c = omega arith
 
-slice-read-t14 : tie.Need-slice-read-t14 invariant-loop decreases-loop
-slice-read-t14 c = omega arith
+slice_read-t14 : tie.Need-bounds-best-j invariant-loop decreases-loop
+slice_read-t14 c = omega arith
 
-add-t15 : tie.Need-overflow-add-t15 invariant-loop decreases-loop
+add-t15 : tie.Need-overflow_add-j invariant-loop decreases-loop
 add-t15 c = omega arith
 
-sub-t16 : tie.Need-overflow-sub-t16 invariant-loop decreases-loop
+sub-t16 : tie.Need-overflow_sub-j-then-j-gt0 invariant-loop decreases-loop
 sub-t16 c = omega arith
 
-mul-t17 : tie.Need-overflow-mul-t17 invariant-loop decreases-loop
+mul-t17 : tie.Need-offset_bounds-figures-j-then-j-gt0 invariant-loop decreases-loop
 mul-t17 c = omega arith
 
-shared-slice-read-t19 : tie.Need-shared-slice-read-t19 invariant-loop decreases-loop
-shared-slice-read-t19 c = omega arith
+shared_slice_read-t19 : tie.Need-bounds-figures-j-then-j-gt0 invariant-loop decreases-loop
+shared_slice_read-t19 c = omega arith
 
-or-requires : tie.Need-or-requires invariant-loop decreases-loop
+or-requires : tie.Need-or-kept-requires invariant-loop decreases-loop
 or-requires c κs = search rules
 
 value-requires : tie.Need-value-requires invariant-loop decreases-loop
 value-requires c κs = search rules
 
-mul-best-2 : tie.Need-overflow-mul-best-2 invariant-loop decreases-loop
+mul-best-2 : tie.Need-offset_bounds-best-j-in-loop-j invariant-loop decreases-loop
 mul-best-2 c = omega arith
 
-slice-write-best : tie.Need-slice-write-best invariant-loop decreases-loop
-slice-write-best c = omega arith
+slice_write-best : tie.Need-bounds-best-j-in-loop-j invariant-loop decreases-loop
+slice_write-best c = omega arith
 
 mark-requires : tie.Need-mark-requires invariant-loop decreases-loop
 mark-requires c κs = kept_markable c.before
 
-mul-back : tie.Need-overflow-mul-back invariant-loop decreases-loop
+mul-back : tie.Need-offset_bounds-back-j invariant-loop decreases-loop
 mul-back c = omega arith
 
-slice-write-back : tie.Need-slice-write-back invariant-loop decreases-loop
-slice-write-back c = omega arith
+slice_write-back : tie.Need-bounds-back-j invariant-loop decreases-loop
+slice_write-back c = omega arith
 
-add-j : tie.Need-overflow-add-j invariant-loop decreases-loop
+add-j : tie.Need-overflow_step-j invariant-loop decreases-loop
 add-j c = omega arith
 
-loop-less : tie.Need-loop-smaller invariant-loop decreases-loop
+loop-less : tie.Need-loop-j-smaller invariant-loop decreases-loop
 loop-less c = omega arith
 
-loop-again : tie.Need-loop-preserved invariant-loop decreases-loop
+loop-again : tie.Need-loop-j-preserved invariant-loop decreases-loop
 loop-again c =
     let start = c.before.before.before.before.before.before.before.before.before in
-    let l = c.before.before.before.before.before.loop in
-    turned start.requires.2 l.invariant c.before.before.before.before.loop-test.true start.requires.0 start.requires.1
-    c.before.before.if1.auto c.before.value.result c.mark.result c.before.value.ensures c.mark.ensures
+    let l = c.loop-j in
+    turned start.requires.2 l.invariant c.loop-j-test.true start.requires.0 start.requires.1
+    c.if-j-gt0.auto c.value.result c.mark.result c.value.ensures c.mark.ensures
     (kept_row c.before.before)
 
-same_length : tie.Need-same-length invariant-loop decreases-loop
-same_length c = c.before.loop.invariant.valued
+same_length : tie.Need-shape_of-best invariant-loop decreases-loop
+same_length c = c.loop-j.invariant.valued
 
-same-length-2 : tie.Need-same-length-2 invariant-loop decreases-loop
-same-length-2 c = c.before.loop.invariant.marked
+same_length-2 : tie.Need-shape_of-back invariant-loop decreases-loop
+same_length-2 c = c.loop-j.invariant.marked
 
 returns : tie.Need-returns invariant-loop decreases-loop
 returns c q starts gaps =
-    let l = c.before.loop in
+    let l = c.loop-j in
     record {
-      row = λ i h. filled_holds l.best l.back i (l.invariant.done q starts gaps i (omega (arith, c.loop-test.false)));
+      row = λ i h. filled_holds l.best l.back i (l.invariant.done q starts gaps i (omega (arith, c.loop-j-test.false)));
       rest = λ at h. l.invariant.rest at (omega (arith, l.invariant.bounded));
     }
 
-pub fill-starts-spec : {M : Type 1} → statement M
-fill-starts-spec =
+pub fill_starts_spec : {M : Type 1} → statement M
+fill_starts_spec =
     tie.close
     (tie.spec
     invariant-loop
     decreases-loop
     loop-holds
     mul-best
-    shared-slice-read-best
+    shared_slice_read-best
     sub-t11
     mul-t12
-    slice-read-t14
+    slice_read-t14
     add-t15
     sub-t16
     mul-t17
-    shared-slice-read-t19
+    shared_slice_read-t19
     or-requires
     value-requires
     mul-best-2
-    slice-write-best
+    slice_write-best
     mark-requires
     mul-back
-    slice-write-back
+    slice_write-back
     add-j
     loop-less
     loop-again
     same_length
-    same-length-2
+    same_length-2
     returns)

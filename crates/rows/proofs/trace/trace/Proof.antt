@@ -128,10 +128,10 @@ module _ {back : List ℕ} {n k boundary : ℕ} {first last : List ℕ} {s j mar
       counted : (f : Bounds → ℕ) → k ≡ length (map f units)
       counted f = sym (trace_count traces) ∙ sym (length-map units f)
 
-abbrev invariant-loop : tie.invariant-loop
+abbrev invariant-loop : tie.invariant-loop-mark
 invariant-loop back n k boundary first₀ last₀ s₀ j₀ mark₀ first last s j mark = Tracing back n k boundary first last s j mark
 
-abbrev decreases-loop : tie.decreases-loop
+abbrev decreases-loop : tie.decreases-loop-mark
 decreases-loop back n k boundary first₀ last₀ s₀ j₀ mark₀ first last s j mark = j
 
 -- the cell that is read first, and that after a turn
@@ -141,44 +141,44 @@ enters c =
     c.requires.0.2
 
 turned :
-    (c : tie.Joined1 invariant-loop decreases-loop) → let a = c.before.before.before.before.args in
-    (c.if1.j < c.before.before.loop.j)
-    × Tracing a.back.now a.n a.k a.boundary c.if1.first c.if1.new c.if1.s c.if1.j
-    (mark_in a.back.now a.n c.if1.s c.if1.j)
+    (c : tie.Joined-mark-eq2 invariant-loop decreases-loop) → let a = c.args in
+    (c.if-mark-eq2.j < c.loop-mark.j)
+    × Tracing a.back.now a.n a.k a.boundary c.if-mark-eq2.first c.if-mark-eq2.new c.if-mark-eq2.s c.if-mark-eq2.j
+    (mark_in a.back.now a.n c.if-mark-eq2.s c.if-mark-eq2.j)
 turned c =
-    let was = c.before.before.loop.invariant in
-    let on = c.before.loop-test.true in
+    let was = c.loop-mark.invariant in
+    let on = c.loop-mark-test.true in
     ⊎_elim
     (λ w. rw (w.1, w.2, w.3, w.4) (omega (arith, (gap_back was w.0.taken).1), crossed-back was w.0.taken))
     (λ w. rw (w.1, w.2, w.3, w.4) ((unit-back was on w.0.left).lower, united-back was on w.0.left))
-    c.if1.branch
+    c.if-mark-eq2.branch
 
 reads_on :
-    (c : tie.Joined1 invariant-loop decreases-loop) → let a = c.before.before.before.before.args in
-    c.if1.s * a.n + c.if1.j < length a.back.now
+    (c : tie.Joined-mark-eq2 invariant-loop decreases-loop) → let a = c.args in
+    c.if-mark-eq2.s * a.n + c.if-mark-eq2.j < length a.back.now
 reads_on c =
     let start = c.before.before.before.before in
-    in_rows start.args.n start.args.k c.if1.s c.if1.j (length start.args.back.now) (turned c).1.row
+    in_rows start.args.n start.args.k c.if-mark-eq2.s c.if-mark-eq2.j (length start.args.back.now) (turned c).1.row
     (turned c).1.place start.requires.0.2
 
-within : (c : tie.Else1 invariant-loop decreases-loop) → c.before.before.loop.s - 1 < most_units
+within : (c : tie.Else-mark-eq2 invariant-loop decreases-loop) → c.loop-mark.s - 1 < most_units
 within c =
-    let was = c.before.before.loop.invariant in
-    omega (arith, was.row, (unit-back was c.before.loop-test.true c.if1.false).is_row, c.before.before.before.before.requires.0.0)
+    let was = c.loop-mark.invariant in
+    omega (arith, was.row, (unit-back was c.loop-mark-test.true c.if-mark-eq2.false).is_row, c.requires.0.0)
 
-mul-mark : tie.Need-overflow-mul-mark invariant-loop decreases-loop
+mul-mark : tie.Need-overflow_mul-mark invariant-loop decreases-loop
 mul-mark c = omega (arith, enters c)
 
-add-mark : tie.Need-overflow-add-mark invariant-loop decreases-loop
+add-mark : tie.Need-overflow_add-mark invariant-loop decreases-loop
 add-mark c = omega (arith, enters c)
 
-mul-mark-2 : tie.Need-overflow-mul-mark-2 invariant-loop decreases-loop
+mul-mark-2 : tie.Need-offset_bounds-back-s invariant-loop decreases-loop
 mul-mark-2 c = omega (arith, enters c)
 
-shared-slice-read-mark : tie.Need-shared-slice-read-mark invariant-loop decreases-loop
-shared-slice-read-mark c = enters c.before
+shared_slice_read-mark : tie.Need-bounds-back-s invariant-loop decreases-loop
+shared_slice_read-mark c = enters c.before
 
-loop-holds : tie.Need-loop-init invariant-loop decreases-loop
+loop-holds : tie.Need-loop-mark-init invariant-loop decreases-loop
 loop-holds c = let start = c.before in record {
   units = start.requires.1.0;
   whole = start.requires.1.1;
@@ -193,64 +193,64 @@ loop-holds c = let start = c.before in record {
   reads = refl;
 }
 
-sub-j : tie.Need-overflow-sub-j invariant-loop decreases-loop
-sub-j c = omega (arith, (gap_back c.before.before.loop.invariant c.if1.true).1)
+sub-j : tie.Need-overflow_sub-j invariant-loop decreases-loop
+sub-j c = omega (arith, (gap_back c.loop-mark.invariant c.if-mark-eq2.true).1)
 
-sub-s : tie.Need-overflow-sub-s invariant-loop decreases-loop
-sub-s c = omega (arith, (unit-back c.before.before.loop.invariant c.before.loop-test.true c.if1.false).is_row)
+sub-s : tie.Need-overflow_sub-s invariant-loop decreases-loop
+sub-s c = omega (arith, (unit-back c.loop-mark.invariant c.loop-mark-test.true c.if-mark-eq2.false).is_row)
 
-sub-first : tie.Need-overflow-sub-first invariant-loop decreases-loop
-sub-first c = unit-mark c.before.before.loop.invariant c.before.loop-test.true c.if1.false
+sub-first : tie.Need-overflow_sub-first invariant-loop decreases-loop
+sub-first c = unit-mark c.loop-mark.invariant c.loop-mark-test.true c.if-mark-eq2.false
 
-mul-first : tie.Need-overflow-mul-first invariant-loop decreases-loop
+mul-first : tie.Need-offset_bounds-first-s invariant-loop decreases-loop
 mul-first c = omega (arith, within c)
 
-array-write-first : tie.Need-array-write-first invariant-loop decreases-loop
-array-write-first c = within c
+array_write-first : tie.Need-bounds-first-s invariant-loop decreases-loop
+array_write-first c = within c
 
-cast-last : tie.Need-overflow-cast-last invariant-loop decreases-loop
-cast-last c = omega (arith, c.before.before.loop.invariant.place, c.before.before.before.before.requires.0.1)
+cast-last : tie.Need-overflow_cast-last invariant-loop decreases-loop
+cast-last c = omega (arith, c.loop-mark.invariant.place, c.requires.0.1)
 
-mul-last : tie.Need-overflow-mul-last invariant-loop decreases-loop
+mul-last : tie.Need-offset_bounds-last-s invariant-loop decreases-loop
 mul-last c = omega (arith, within c)
 
-array-write-last : tie.Need-array-write-last invariant-loop decreases-loop
-array-write-last c = within c
+array_write-last : tie.Need-bounds-last-s invariant-loop decreases-loop
+array_write-last c = within c
 
-sub-j-2 : tie.Need-overflow-sub-j-2 invariant-loop decreases-loop
-sub-j-2 c = unit-mark c.before.before.loop.invariant c.before.loop-test.true c.if1.false
+sub-j-2 : tie.Need-overflow_sub-j-else-mark-eq2 invariant-loop decreases-loop
+sub-j-2 c = unit-mark c.loop-mark.invariant c.loop-mark-test.true c.if-mark-eq2.false
 
-cast-j : tie.Need-overflow-cast-j invariant-loop decreases-loop
+cast-j : tie.Need-overflow_cast-j invariant-loop decreases-loop
 cast-j c =
     omega (
       arith,
-      (united-back c.before.before.loop.invariant c.before.loop-test.true c.if1.false).place,
-      c.before.before.before.before.requires.0.1,
+      (united-back c.loop-mark.invariant c.loop-mark-test.true c.if-mark-eq2.false).place,
+      c.requires.0.1,
     )
 
-mul-mark-3 : tie.Need-overflow-mul-mark-3 invariant-loop decreases-loop
+mul-mark-3 : tie.Need-overflow_mul-mark-in-loop-mark invariant-loop decreases-loop
 mul-mark-3 c = omega (arith, reads_on c.before)
 
-add-mark-2 : tie.Need-overflow-add-mark-2 invariant-loop decreases-loop
+add-mark-2 : tie.Need-overflow_add-mark-in-loop-mark invariant-loop decreases-loop
 add-mark-2 c = omega (arith, reads_on c.before.before)
 
-mul-mark-4 : tie.Need-overflow-mul-mark-4 invariant-loop decreases-loop
+mul-mark-4 : tie.Need-offset_bounds-back-s-in-loop-mark invariant-loop decreases-loop
 mul-mark-4 c = omega (arith, reads_on c.before.before)
 
-shared-slice-read-mark-2 : tie.Need-shared-slice-read-mark-2 invariant-loop decreases-loop
-shared-slice-read-mark-2 c = reads_on c.before.before.before
+shared_slice_read-mark-2 : tie.Need-bounds-back-s-in-loop-mark invariant-loop decreases-loop
+shared_slice_read-mark-2 c = reads_on c.before.before.before
 
-loop-less : tie.Need-loop-smaller invariant-loop decreases-loop
+loop-less : tie.Need-loop-mark-smaller invariant-loop decreases-loop
 loop-less c = (turned c.before.before.before).0
 
-loop-again : tie.Need-loop-preserved invariant-loop decreases-loop
+loop-again : tie.Need-loop-mark-preserved invariant-loop decreases-loop
 loop-again c = (turned c.before.before.before).1
 
 returns : tie.Need-returns invariant-loop decreases-loop
-returns c = arrays c.before.loop.invariant c.loop-test.false
+returns c = arrays c.loop-mark.invariant c.loop-mark-test.false
 
-pub trace-spec : {M : Type 1} → statement M
-trace-spec =
+pub trace_spec : {M : Type 1} → statement M
+trace_spec =
     tie.close
     (tie.spec
     invariant-loop
@@ -258,22 +258,22 @@ trace-spec =
     mul-mark
     add-mark
     mul-mark-2
-    shared-slice-read-mark
+    shared_slice_read-mark
     loop-holds
     sub-j
     sub-s
     sub-first
     mul-first
-    array-write-first
+    array_write-first
     cast-last
     mul-last
-    array-write-last
+    array_write-last
     sub-j-2
     cast-j
     mul-mark-3
     add-mark-2
     mul-mark-4
-    shared-slice-read-mark-2
+    shared_slice_read-mark-2
     loop-less
     loop-again
     returns)

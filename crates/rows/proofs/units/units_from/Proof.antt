@@ -26,58 +26,58 @@ each-end way kept i end h =
     let none : end - i ≡ 0 = omega arith in
     rw none
 
-abbrev invariant-loop : tie.invariant-loop
+abbrev invariant-loop : tie.invariant-loop-origin
 invariant-loop best words figures to score low end kept₀ origin₀ kept origin =
     (low ≤ origin)
     × (or_each (unit_way best words figures to score) kept origin (end - origin)
     ≡ or_each (unit_way best words figures to score) kept₀ low (end - low))
 
-abbrev decreases-loop : tie.decreases-loop
+abbrev decreases-loop : tie.decreases-loop-origin
 decreases-loop best words figures to score low end kept₀ origin₀ kept origin = end - origin
 
-loop-holds : tie.Need-loop-init invariant-loop decreases-loop
+loop-holds : tie.Need-loop-origin-init invariant-loop decreases-loop
 loop-holds c = (le_refl _, refl)
 
-unit-from-requires : tie.Need-unit-from-requires invariant-loop decreases-loop
-unit-from-requires c κs =
-    c.before.before.before.before.before.requires c.before.loop.origin c.before.loop.invariant.0 c.loop-test.true
+unit_from-requires : tie.Need-unit_from-requires invariant-loop decreases-loop
+unit_from-requires c κs =
+    c.requires c.loop-origin.origin c.loop-origin.invariant.0 c.loop-origin-test.true
 
-or-requires : tie.Need-or-requires invariant-loop decreases-loop
+or-requires : tie.Need-or-kept-requires invariant-loop decreases-loop
 or-requires c κs = search rules
 
-add-origin : tie.Need-overflow-add-origin invariant-loop decreases-loop
-add-origin c = omega arith
+add_origin : tie.Need-overflow_step-origin invariant-loop decreases-loop
+add_origin c = omega arith
 
-loop-less : tie.Need-loop-smaller invariant-loop decreases-loop
+loop-less : tie.Need-loop-origin-smaller invariant-loop decreases-loop
 loop-less c = omega arith
 
-loop-again : tie.Need-loop-preserved invariant-loop decreases-loop
+loop-again : tie.Need-loop-origin-preserved invariant-loop decreases-loop
 loop-again c =
-    let a = c.before.before.before.before.before.before.before.args in
-    let l = c.before.before.before.loop in
+    let a = c.args in
+    let l = c.loop-origin in
     let way = unit_way a.best.now a.words.now a.figures.now a.to a.score in (
       omega (arith, l.invariant.0),
-      each_turn way l.auto l.origin a.end c.before.before.loop-test.true
-          (c.or.ensures ∙ ap (or_later l.auto) c.before.unit-from.ensures) ∙ l.invariant.1,
+      each_turn way l.auto l.origin a.end c.loop-origin-test.true
+          (c.or-kept.ensures ∙ ap (or_later l.auto) c.unit_from.ensures) ∙ l.invariant.1,
     )
 
 returns : tie.Need-returns invariant-loop decreases-loop
 returns c =
-    let a = c.before.before.before.before.before.args in
-    let l = c.before.loop in
+    let a = c.args in
+    let l = c.loop-origin in
     each-end (unit_way a.best.now a.words.now a.figures.now a.to a.score) l.auto l.origin a.end
-    c.loop-test.false ∙ l.invariant.1
+    c.loop-origin-test.false ∙ l.invariant.1
 
-pub units-from-spec : {M : Type 1} → statement M
-units-from-spec =
+pub units_from_spec : {M : Type 1} → statement M
+units_from_spec =
     tie.close
     (tie.spec
     invariant-loop
     decreases-loop
     loop-holds
-    unit-from-requires
+    unit_from-requires
     or-requires
-    add-origin
+    add_origin
     loop-less
     loop-again
     returns)

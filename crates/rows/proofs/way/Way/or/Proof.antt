@@ -10,13 +10,13 @@ value-requires c κs = search rules
 value-requires-2 : tie.Need-value-requires-2
 value-requires-2 c κs = search rules
 
-returns : tie.Need-returns
+returns : tie.Need-returns-then-value
 unfolding or_later
-returns c = rw (← c.before.before.value.ensures, ← c.before.value2.ensures, c.if1.true)
+returns c = rw (← c.value.ensures, ← c.value-2.ensures, c.if-value.true)
 
-returns-2 : tie.Need-returns-2
+returns-2 : tie.Need-returns-else-value
 unfolding or_later
-returns-2 c = rw (← c.before.before.value.ensures, ← c.before.value2.ensures, c.if1.false)
+returns-2 c = rw (← c.value.ensures, ← c.value-2.ensures, c.if-value.false)
 
-pub or-spec : {M : Type 1} → statement M
-or-spec = tie.close (tie.spec value-requires value-requires-2 returns returns-2)
+pub or_spec : {M : Type 1} → statement M
+or_spec = tie.close (tie.spec value-requires value-requires-2 returns returns-2)
