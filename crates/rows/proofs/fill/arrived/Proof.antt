@@ -1,7 +1,6 @@
 -- `rows::fill::arrived` meets its contract. Assumes nothing.
 use mathlib.Core.Bool.{Bool, cond}
 use mathlib.Core.List.{List}
-use mathlib.Core.Logic.{⊎_elim}
 use mathlib.Core.Path.{◌≡◌, sym, ap, ◌∙◌}
 use Prim.Native.Nat.{ℕ, ◌+◌, ◌-◌, max}
 use native.Mathlib.Nat.{le_refl}
@@ -17,6 +16,7 @@ use Rattle.rows.specs.declared.way.Way.{Way}
 use Rattle.rows.specs.Ways.{or_each}
 use Rattle.rows.specs.Reads.{unit_way, score_read, units_kept}
 use Rattle.rows.proofs.fill.arrived.Statement.{statement}
+use Rattle.rows.proofs.fill.arrived.Lts.{then-low-middle, else-low-middle}
 use Rattle.rows.proofs.fill.arrived.Tie as tie
 
 module _ (best : List Float) (words : List ℕ) (figures : List Float) (score : Float) (costs : Costs) (j low end : ℕ) where
@@ -50,10 +50,14 @@ voice-is c =
     let a = (entry c.before).args in
     let middle = get_or a.words.now (middles_at + a.j) 0 in
     let score = score_read a.bytes.now a.words.now a.column a.j in
-    ⊎_elim
-    (λ w. w.2 ∙ w.1.ensures ∙ sym (ap (λ (b : Bool). cond b score a.costs.«unvoiced») (lt-ltb a.low middle w.0.taken)))
-    (λ w. w.2 ∙ w.1.ensures ∙ sym (ap (λ (b : Bool). cond b score a.costs.«unvoiced») (le-ltb a.low middle w.0.left)))
-    c.if-low-middle.branch
+    elim c.if-low-middle.branch [
+      then-low-middle w ↦
+          w.voice-is ∙ w.score_at-voice.ensures
+          ∙ sym (ap (λ (b : Bool). cond b score a.costs.«unvoiced») (lt-ltb a.low middle w.if-low-middle.true))
+    | else-low-middle w ↦
+          w.voice-is ∙ w.unanchored-voice.ensures
+          ∙ sym (ap (λ (b : Bool). cond b score a.costs.«unvoiced») (le-ltb a.low middle w.if-low-middle.false))
+    ]
 
 mul-to : tie.Need-offset_bounds-words-j
 mul-to c = search rules

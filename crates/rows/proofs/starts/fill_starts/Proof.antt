@@ -21,6 +21,7 @@ use Rattle.rows.specs.Rows.{Same, StartsOf, GapsOf}
 use Rattle.rows.proofs.Lists.{table_at_law}
 use Rattle.rows.proofs.Cells.{higher, same_refl, same_trans, stored_beside, or_keeps, or_markable, Filled, filled_holds, same_filled, stored_filled}
 use Rattle.rows.proofs.starts.fill_starts.Statement.{statement}
+use Rattle.rows.proofs.starts.fill_starts.Lts.{then-j-gt0, else-j-gt0}
 use Rattle.rows.proofs.starts.fill_starts.Tie as tie
 
 -- the way kept at boundary j: the start, and after the first boundary the gap from the one before
@@ -122,12 +123,16 @@ kept-way :
     (c : tie.Joined-j-gt0 invariant-loop decreases-loop) →
     let a = c.args in
     let l = c.loop-j in
-    ((l.j ≡ 0) × (c.if-j-gt0.auto ≡ start_way a.figures.now l.j))
-    ⊎ ((0 < l.j) × (c.if-j-gt0.auto ≡ or_later (start_way a.figures.now l.j) (gap_way l.best a.figures.now l.j)))
+    ((l.j ≡ 0) × (c.if-j-gt0.kept ≡ start_way a.figures.now l.j))
+    ⊎ ((0 < l.j) × (c.if-j-gt0.kept ≡ or_later (start_way a.figures.now l.j) (gap_way l.best a.figures.now l.j)))
 unfolding start_way gap_way
-kept-way c = ⊎_elim (λ w. inr (w.0.taken, w.4 ∙ w.3.ensures)) (λ w. inl (omega (arith, w.0.left), w.1)) c.if-j-gt0.branch
+kept-way c = 
+    elim c.if-j-gt0.branch [
+      then-j-gt0 w ↦ inr (w.if-j-gt0.true, w.kept-is ∙ w.or-kept.ensures)
+    | else-j-gt0 w ↦ inl (let none = w.if-j-gt0.false in omega arith, w.kept-is)
+    ]
 
-kept_markable : (c : tie.Joined-j-gt0 invariant-loop decreases-loop) → Markable c.if-j-gt0.auto
+kept_markable : (c : tie.Joined-j-gt0 invariant-loop decreases-loop) → Markable c.if-j-gt0.kept
 unfolding start_way gap_way
 kept_markable c =
     ⊎_elim (λ w. subst Markable (sym w.1) (omega arith)) (λ w. subst Markable (sym w.1) (or_markable _ _ (omega arith) (omega arith)))
@@ -137,7 +142,7 @@ kept_row :
     (c : tie.Joined-j-gt0 invariant-loop decreases-loop) →
     let a = c.args in
     (q : Problem) → StartsOf q (table_at starts_at a.figures.now) a.n → GapsOf q (table_at gaps_at a.figures.now) a.n →
-    rows q (marks q) 0 c.loop-j.j ≡ held (marked_by c.if-j-gt0.auto)
+    rows q (marks q) 0 c.loop-j.j ≡ held (marked_by c.if-j-gt0.kept)
 kept_row c q starts gaps =
     let start = c.before.before.before.before.before.before.before in
     let l = c.loop-j in
@@ -216,7 +221,7 @@ loop-again c =
     let start = c.before.before.before.before.before.before.before.before.before in
     let l = c.loop-j in
     turned start.requires.2 l.invariant c.loop-j-test.true start.requires.0 start.requires.1
-    c.if-j-gt0.auto c.value.result c.mark.result c.value.ensures c.mark.ensures
+    c.if-j-gt0.kept c.value.result c.mark.result c.value.ensures c.mark.ensures
     (kept_row c.before.before)
 
 same_length : tie.Need-shape_of-best invariant-loop decreases-loop

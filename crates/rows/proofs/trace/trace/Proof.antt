@@ -12,6 +12,7 @@ use Rattle.paths.proofs.Marks.{UnitBefore, traces_same, trace_start, trace_gap, 
 use Rattle.limits.specs.Capacity.{most_units}
 use Rattle.rows.specs.Traced.{mark_in, firsts_of, lasts_of, UnitsAre}
 use Rattle.rows.proofs.trace.trace.Statement.{statement}
+use Rattle.rows.proofs.trace.trace.Lts.{then-mark-eq2, else-mark-eq2}
 use Rattle.rows.proofs.trace.trace.Tie as tie
 
 -- a store in front of what is stored already
@@ -143,15 +144,19 @@ enters c =
 turned :
     (c : tie.Joined-mark-eq2 invariant-loop decreases-loop) → let a = c.args in
     (c.if-mark-eq2.j < c.loop-mark.j)
-    × Tracing a.back.now a.n a.k a.boundary c.if-mark-eq2.first c.if-mark-eq2.new c.if-mark-eq2.s c.if-mark-eq2.j
+    × Tracing a.back.now a.n a.k a.boundary c.if-mark-eq2.first c.if-mark-eq2.last c.if-mark-eq2.s c.if-mark-eq2.j
     (mark_in a.back.now a.n c.if-mark-eq2.s c.if-mark-eq2.j)
 turned c =
     let was = c.loop-mark.invariant in
     let on = c.loop-mark-test.true in
-    ⊎_elim
-    (λ w. rw (w.1, w.2, w.3, w.4) (omega (arith, (gap_back was w.0.taken).1), crossed-back was w.0.taken))
-    (λ w. rw (w.1, w.2, w.3, w.4) ((unit-back was on w.0.left).lower, united-back was on w.0.left))
-    c.if-mark-eq2.branch
+    elim c.if-mark-eq2.branch [
+      then-mark-eq2 w ↦
+          rw (w.first-is, w.last-is, w.s-is, w.j-is)
+          (omega (arith, (gap_back was w.if-mark-eq2.true).1), crossed-back was w.if-mark-eq2.true)
+    | else-mark-eq2 w ↦
+          rw (w.first-is, w.last-is, w.s-is, w.j-is)
+          ((unit-back was on w.if-mark-eq2.false).lower, united-back was on w.if-mark-eq2.false)
+    ]
 
 reads_on :
     (c : tie.Joined-mark-eq2 invariant-loop decreases-loop) → let a = c.args in

@@ -57,15 +57,15 @@ loop-again c =
     let l = c.loop-origin in
     let way = unit_way a.best.now a.words.now a.figures.now a.to a.score in (
       omega (arith, l.invariant.0),
-      each_turn way l.auto l.origin a.end c.loop-origin-test.true
-          (c.or-kept.ensures ∙ ap (or_later l.auto) c.unit_from.ensures) ∙ l.invariant.1,
+      each_turn way l.kept l.origin a.end c.loop-origin-test.true
+          (c.or-kept.ensures ∙ ap (or_later l.kept) c.unit_from.ensures) ∙ l.invariant.1,
     )
 
 returns : tie.Need-returns invariant-loop decreases-loop
 returns c =
     let a = c.args in
     let l = c.loop-origin in
-    each-end (unit_way a.best.now a.words.now a.figures.now a.to a.score) l.auto l.origin a.end
+    each-end (unit_way a.best.now a.words.now a.figures.now a.to a.score) l.kept l.origin a.end
     c.loop-origin-test.false ∙ l.invariant.1
 
 pub units_from_spec : {M : Type 1} → statement M
