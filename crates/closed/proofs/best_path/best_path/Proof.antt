@@ -26,66 +26,66 @@ asked c =
     asked_of c.args.bytes.now c.args.candidate c.args.strictness c.args.n c.args.words.now c.args.figures.now
 
 -- the function's entry, from where the last row's first boundary is known
-abbrev entry : tie.After-first-reached → tie.Start
+abbrev entry : tie.After-first_reached-since → tie.Start
 entry c = c.before.before.before.before.before.before.before
 
-abbrev count : tie.After-first-reached → ℕ
-count c = c.before.units.result
+abbrev count : tie.After-first_reached-since → ℕ
+count c = c.units-k.result
 
 -- the candidate's units are few
-few_units_law : (c : tie.After-units) → c.units.result < unit_counts
+few_units_law : (c : tie.After-units-k) → c.units-k.result < unit_counts
 few_units_law c =
     let start = c.before.before.before.before.before.before in
     let given = start.requires.given in
-    omega (arith, c.units.ensures, candidate-units given.laid given.listed)
+    omega (arith, c.units-k.ensures, candidate-units given.laid given.listed)
 
 -- so many cells are used
-used : (c : tie.After-first-reached) → suc (count c) * (entry c).args.n ≡ cells_for (asked (entry c))
-used c = ap (λ (k : ℕ). suc k * (entry c).args.n) c.before.units.ensures
+used : (c : tie.After-first_reached-since) → suc (count c) * (entry c).args.n ≡ cells_for (asked (entry c))
+used c = ap (λ (k : ℕ). suc k * (entry c).args.n) c.units-k.ensures
 
 -- where the last row is reached first, as the table has it
-first-there : (c : tie.After-first-reached)
-    → c.first-reached.result ≡ get_or (since_in (asked (entry c)).tables (entry c).args.strictness) (count c) 0
+first-there : (c : tie.After-first_reached-since)
+    → c.first_reached-since.result ≡ get_or (since_in (asked (entry c)).tables (entry c).args.strictness) (count c) 0
 first-there c =
     let a = (entry c).args in
-    c.first-reached.ensures ∙ sym (reached_at a.n a.words.now a.figures.now a.strictness (count c) (few_units_law c.before))
+    c.first_reached-since.ensures ∙ sym (reached_at a.n a.words.now a.figures.now a.strictness (count c) (few_units_law c.before))
 
-last-reached : (c : tie.After-first-reached) (q : Problem) → Agrees (asked (entry c)) q
-    → LastReached q (entry c).args.n (count c) c.first-reached.result
-last-reached c q agrees =
-    reaches (asked (entry c)) (entry c).requires.readable q agrees (count c) (few_units_law c.before) c.first-reached.result (first-there c)
+last_reached : (c : tie.After-first_reached-since) (q : Problem) → Agrees (asked (entry c)) q
+    → LastReached q (entry c).args.n (count c) c.first_reached-since.result
+last_reached c q agrees =
+    reaches (asked (entry c)) (entry c).requires.readable q agrees (count c) (few_units_law c.before) c.first_reached-since.result (first-there c)
 
-units-requires : tie.Need-units-requires
+units-requires : tie.Need-units-k-requires
 units-requires c κs = search rules
 
-first-reached-requires : tie.Need-first-reached-requires
-first-reached-requires c κs = (c.before.before.before.before.before.before.requires.lent.worded, few_units_law c)
+first_reached-requires : tie.Need-first_reached-since-requires
+first_reached-requires c κs = (c.requires.lent.worded, few_units_law c)
 
-no-units-requires : tie.Need-no-units-requires
-no-units-requires c κs = search rules
+no_units-requires : tie.Need-no_units-units-requires
+no_units-requires c κs = search rules
 
-returns : tie.Need-returns
+returns : tie.Need-returns-then-since-n
 returns c =
     let here = c.before.before in
     let start = entry here in (
-      (λ q agrees. subst (λ (k : ℕ). Reports q k (record { found = NoPath; units = c.no-units.result })) here.before.units.ensures
-          (reports_none c.no-units.result
-          (none_there (asked start) start.pre.readable q agrees (count here) (few_units_law here.before)
-          (omega (arith, first-there here, c.before.if1.true)))
-          c.no-units.ensures)),
+      (λ q agrees. subst (λ (k : ℕ). Reports q k (record { found = NoPath; units = c.no_units-units.result })) here.units-k.ensures
+          (reports_none c.no_units-units.result
+          (none_there (asked start) start.requires.readable q agrees (count here) (few_units_law here.before)
+          (omega (arith, first-there here, c.if-since-n.true)))
+          c.no_units-units.ensures)),
       (refl, refl),
     )
 
-fill-rows-requires : tie.Need-fill-rows-requires
-fill-rows-requires c κs = search rules
+fill_rows-requires : tie.Need-fill_rows-requires
+fill_rows-requires c κs = search rules
 
-sub-finish : tie.Need-overflow-sub-finish
+sub-finish : tie.Need-slice_bounds-finish-count
 sub-finish c = search rules
 
-part-finish-start : tie.Need-slice-bounds-finish-start
+part-finish-start : tie.Need-slice_bounds-finish-start
 part-finish-start c = search rules
 
-part-finish-end : tie.Need-slice-bounds-finish-end
+part-finish-end : tie.Need-slice_bounds-finish-end
 part-finish-end c = search rules
 
 finish-requires : tie.Need-finish-requires
@@ -93,73 +93,73 @@ finish-requires c κs =
     let here = c.before.before.before.before.before.before.before.before.before.before.before in
     let start = entry here in
     let a = start.args in
-    let unused = start.pre.unused in
-    let readable = start.pre.readable in
-    let some = start.pre.some in
-    let filled = c.before.before.before.before.before.before.before.fill-rows in
+    let unused = start.requires.unused in
+    let readable = start.requires.readable in
+    let some = start.requires.some in
+    let filled = c.fill_rows in
     let cells = used here in
     let few = few_units_law here.before in (
       (
         omega arith,
         omega (arith, readable.few),
-        omega (arith, cells, unused.values, filled.auto.0),
-        omega (arith, cells, unused.marks, filled.auto.1.0),
-        omega (arith, readable.few, (whole {n = a.n} start.pre.lent).stop),
-        c.before.before.before.before.before.before.before.before.before.before.if1.false,
+        omega (arith, cells, unused.values, filled.auto.best),
+        omega (arith, cells, unused.marks, filled.auto.back),
+        omega (arith, readable.few, (whole {n = a.n} start.requires.lent).stop),
+        c.if-since-n.false,
       ),
       (
         some.0,
         some.1.stops,
-        subst⁻¹ (AllRows some.0 filled.new.0 filled.new.1.0 a.n) here.before.units.ensures
+        subst⁻¹ (AllRows some.0 filled.new.best filled.new.back a.n) here.units-k.ensures
             (filled.ensures.rows some.0 some.1),
-        last-reached here some.0 some.1,
+        last_reached here some.0 some.1,
       ),
     )
 
-same_length : tie.Need-same-length
+same_length : tie.Need-shape_of-best
 same_length c = search rules
 
-same-length-2 : tie.Need-same-length-2
-same-length-2 c = search rules
+same_length-2 : tie.Need-shape_of-back
+same_length-2 c = search rules
 
-returns-2 : tie.Need-returns-2
+returns-2 : tie.Need-returns
 returns-2 c =
     let here =
     c.before.before.before.before.before.before.before.before.before.before.before.before.before.before.before.before in
     let start = entry here in
     let a = start.args in
-    let unused = start.pre.unused in
-    let filled = c.before.before.before.before.before.before.before.before.before.before.before.before.fill-rows in
-    let done = c.before.before.before.before.finish in
-    let counted = here.before.units.ensures in
+    let unused = start.requires.unused in
+    let filled = c.fill_rows in
+    let done = c.finish in
+    let counted = here.units-k.ensures in
     let cells = used here in (
       (λ q agrees. subst (λ (k : ℕ). Reports q k done.result) counted
           (done.ensures.0 q agrees.stops
-          (subst⁻¹ (AllRows q filled.new.0 filled.new.1.0 a.n) counted (filled.ensures.rows q agrees))
-          (last-reached here q agrees))),
+          (subst⁻¹ (AllRows q filled.new.best filled.new.back a.n) counted (filled.ensures.rows q agrees))
+          (last_reached here q agrees))),
       (
-        done.ensures.1.0 ∙ ap (λ (m : ℕ). replicate m (of_bits binary64 0) ++ drop m filled.new.0) cells
-            ∙ restored (cells_for (asked start)) a.best.now filled.new.0 (of_bits binary64 0) nan unused.values filled.auto.0
+        done.ensures.1.0 ∙ ap (λ (m : ℕ). replicate m (of_bits binary64 0) ++ drop m filled.new.best) cells
+            ∙ restored (cells_for (asked start)) a.best.now filled.new.best (of_bits binary64 0) nan unused.values filled.auto.best
             (λ i h. zero_value (unused.zero i h)) (λ i h. (filled.ensures.rest i h).value),
-        done.ensures.1.1 ∙ ap (λ (m : ℕ). replicate m 0 ++ drop m filled.new.1.0) cells
-            ∙ restored (cells_for (asked start)) a.back.now filled.new.1.0 0 0 unused.marks filled.auto.1.0
+        done.ensures.1.1 ∙ ap (λ (m : ℕ). replicate m 0 ++ drop m filled.new.back) cells
+            ∙ restored (cells_for (asked start)) a.back.now filled.new.back 0 0 unused.marks filled.auto.back
             (λ i h. zero_mark (unused.zero i h)) (λ i h. (filled.ensures.rest i h).mark),
       ),
     )
 
-pub best-path-spec : {M : Type 1} → statement M
-best-path-spec =
+pub best_path_spec : {M : Type 1} → statement M
+best_path_spec =
     tie.close
     (tie.spec
     units-requires
-    first-reached-requires
-    no-units-requires
+    first_reached-requires
+    no_units-requires
     returns
-    fill-rows-requires
+    fill_rows-requires
     sub-finish
     part-finish-start
     part-finish-end
     finish-requires
     same_length
-    same-length-2
+    same_length-2
     returns-2)

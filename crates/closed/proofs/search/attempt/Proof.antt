@@ -26,60 +26,60 @@ columns c = columns_of c.args.bytes.now c.args.task.candidate
 abbrev problem : tie.Start → Problem
 problem c = pass_problem (phrase c) c.args.pass (columns c)
 
-abbrev asked : tie.After-boundary-count → Asked
+abbrev asked : tie.After-boundary_count-n → Asked
 asked c =
-    let a = c.before.before.before.before.before.before.before.before.args in
-    asked_of a.bytes.now a.task.candidate c.before.before.strictness-of.result c.boundary-count.result a.words.now
+    let a = c.args in
+    asked_of a.bytes.now a.task.candidate c.strictness_of-strictness.result c.boundary_count-n.result a.words.now
     a.figures.now
 
-agreed : (c : tie.After-boundary-count) → Agrees (asked c) (problem c.before.before.before.before.before.before.before.before)
+agreed : (c : tie.After-boundary_count-n) → Agrees (asked c) (problem c.before.before.before.before.before.before.before.before)
 agreed c =
     let start = c.before.before.before.before.before.before.before.before in
-    pass_agrees start.requires.0.0 start.args.pass start.requires.1.0 c.before.before.strictness-of.ensures
-    c.boundary-count.ensures
+    pass_agrees start.requires.0.0 start.args.pass start.requires.1.0 c.strictness_of-strictness.ensures
+    c.boundary_count-n.ensures
 
-strictness-of-requires : tie.Need-strictness-of-requires
-strictness-of-requires c κs = search rules
+strictness_of-requires : tie.Need-strictness_of-strictness-requires
+strictness_of-requires c κs = search rules
 
-boundary-count-requires : tie.Need-boundary-count-requires
-boundary-count-requires c κs = search rules
+boundary_count-requires : tie.Need-boundary_count-n-requires
+boundary_count-requires c κs = search rules
 
-best-path-requires : tie.Need-best-path-requires
-best-path-requires c κs =
+best_path-requires : tie.Need-best_path-path-requires
+best_path-requires c κs =
     let start = c.before.before.before.before.before.before.before.before.before.before.before in
     pass_inputs start.requires.0.0 start.args.pass start.requires.1.0
-    c.before.before.before.before.before.strictness-of.ensures c.before.before.before.boundary-count.ensures
+    c.strictness_of-strictness.ensures c.boundary_count-n.ensures
     start.requires.0.1 start.requires.1.1
 
-answer-in-requires : tie.Need-answer-in-requires
-answer-in-requires c κs = search rules
+answer_in-requires : tie.Need-answer_in-answer-requires
+answer_in-requires c κs = search rules
 
-same_length : tie.Need-same-length
+same_length : tie.Need-shape_of-best
 same_length c = search rules
 
-same-length-2 : tie.Need-same-length-2
-same-length-2 c = search rules
+same_length-2 : tie.Need-shape_of-back
+same_length-2 c = search rules
 
 returns : tie.Need-returns
 returns c =
     let start =
     c.before.before.before.before.before.before.before.before.before.before.before.before.before.before.before.before.before.before in
-    let path = c.before.before.before.before.before.before.best-path in (
+    let path = c.best_path-path in (
       subst⁻¹ (λ (answer : Answer). Says (pass_answer (phrase start) start.args.pass (columns start))
-          (record { answer = answer; units = path.result.units })) c.before.answer-in.ensures
+          (record { answer = answer; units = path.result.units })) c.answer_in-answer.ensures
           (says_path start.args.pass (problem start) (length (columns start)) path.result
           (path.ensures.0 (problem start) (agreed c.before.before.before.before.before.before.before.before.before.before))),
       path.ensures.1,
     )
 
-pub attempt-spec : {M : Type 1} → statement M
-attempt-spec =
+pub attempt_spec : {M : Type 1} → statement M
+attempt_spec =
     tie.close
     (tie.spec
-    strictness-of-requires
-    boundary-count-requires
-    best-path-requires
-    answer-in-requires
+    strictness_of-requires
+    boundary_count-requires
+    best_path-requires
+    answer_in-requires
     same_length
-    same-length-2
+    same_length-2
     returns)

@@ -17,61 +17,61 @@ phrase c = phrase_of c.args.bytes.now
 abbrev columns : tie.Start → List ℕ
 columns c = columns_of c.args.bytes.now c.args.task.candidate
 
-attempt-requires : tie.Need-attempt-requires
-attempt-requires c κs = c.before.before.before.before.before.before.before.requires
+attempt-requires : tie.Need-attempt-strict-requires
+attempt-requires c κs = c.requires
 
-is-found-requires : tie.Need-is-found-requires
-is-found-requires c κs = search rules
+is_found-requires : tie.Need-is_found-requires
+is_found-requires c κs = search rules
 
-same_length : tie.Need-same-length
+same_length : tie.Need-shape_of-best-then-is_found
 same_length c = search rules
 
-same-length-2 : tie.Need-same-length-2
-same-length-2 c = search rules
+same_length-2 : tie.Need-shape_of-back-then-is_found
+same_length-2 c = search rules
 
-returns : tie.Need-returns
+returns : tie.Need-returns-then-is_found
 returns c =
     let start = c.before.before.before.before.before.before.before.before.before.before.before.before.before.before in
-    let strict = c.before.before.before.before.before.before.attempt in (
-      says_count (phrase start) (columns start) strict.result strict.ensures.0 (sym c.before.is_found.ensures ∙ c.if1.true),
+    let strict = c.attempt-strict in (
+      says_count (phrase start) (columns start) strict.result strict.ensures.0 (sym c.is_found.ensures ∙ c.if-is_found.true),
       strict.ensures.1,
     )
 
-attempt-requires-2 : tie.Need-attempt-requires-2
+attempt-requires-2 : tie.Need-attempt-requires
 attempt-requires-2 c κs =
     let pre =
-    c.before.before.before.before.before.before.before.before.before.before.before.before.before.before.before.before.requires in
-    let strict = c.before.before.before.before.before.before.before.before.attempt.ensures.1 in
+    c.requires in
+    let strict = c.attempt-strict.ensures.1 in
     (pre.0, (pre.1.0, still strict.0 strict.1 pre.1.1))
 
-same-length-3 : tie.Need-same-length-3
-same-length-3 c = search rules
+same_length-3 : tie.Need-shape_of-best
+same_length-3 c = search rules
 
-same-length-4 : tie.Need-same-length-4
-same-length-4 c = search rules
+same_length-4 : tie.Need-shape_of-back
+same_length-4 c = search rules
 
-returns-2 : tie.Need-returns-2
+returns-2 : tie.Need-returns
 returns-2 c =
     let start =
     c.before.before.before.before.before.before.before.before.before.before.before.before.before.before.before.before.before.before.before.before.before in
-    let strict = c.before.before.before.before.before.before.before.before.before.before.before.before.before.attempt in
-    let last = c.before.before.before.before.attempt2 in (
+    let strict = c.attempt-strict in
+    let last = c.attempt in (
       says_last (phrase start) (columns start) strict.result strict.ensures.0
-          (sym c.before.before.before.before.before.before.before.before.is_found.ensures
-          ∙ c.before.before.before.before.before.before.before.if1.false) last.result last.ensures.0,
+          (sym c.is_found.ensures
+          ∙ c.if-is_found.false) last.result last.ensures.0,
       (last.ensures.1.0 ∙ strict.ensures.1.0, last.ensures.1.1 ∙ strict.ensures.1.1),
     )
 
-pub search-added-spec : {M : Type 1} → statement M
-search-added-spec =
+pub search_added_spec : {M : Type 1} → statement M
+search_added_spec =
     tie.close
     (tie.spec
     attempt-requires
-    is-found-requires
+    is_found-requires
     same_length
-    same-length-2
+    same_length-2
     returns
     attempt-requires-2
-    same-length-3
-    same-length-4
+    same_length-3
+    same_length-4
     returns-2)

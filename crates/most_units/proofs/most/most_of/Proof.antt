@@ -23,13 +23,13 @@ use Rattle.most_units.proofs.most.most_of.Tie as tie
 
 -- ---- the places, each from the next one named
 
-abbrev entered : tie.After-boundaries → tie.Start
+abbrev entered : tie.After-boundaries-n → tie.Start
 entered c = c.before.before.before
 
-abbrev reading : tie.After-lay-reach → tie.After-boundaries
+abbrev reading : tie.After-lay_reach → tie.After-boundaries-n
 reading c = c.before.before.before.before.before
 
-abbrev laying : tie.After-limits-of → tie.After-lay-reach
+abbrev laying : tie.After-limits_of-cap → tie.After-lay_reach
 laying c = c.before.before
 
 -- the stage that is asked for
@@ -38,53 +38,53 @@ bounds_of c = (stage_of c.args.which (phrase_of c.args.bytes.now)).boundaries
 
 -- ---- the boundaries
 
-slice-aggregate-boundaries : tie.Need-slice-aggregate-boundaries
-slice-aggregate-boundaries c = search rules
+slice_aggregate-boundaries : tie.Need-slice_bounds-boundaries-end
+slice_aggregate-boundaries c = search rules
 
-boundaries-requires : tie.Need-boundaries-requires
+boundaries-requires : tie.Need-boundaries-n-requires
 boundaries-requires c κs = let start = c.before.before in (start.requires, few_boundaries_law start.requires start.args.which)
 
-returns : tie.Need-returns
+returns : tie.Need-returns-then-n-eq0
 returns c =
     let start = entered c.before.before in
-    no_boundary start.pre.accepted
-    (length_none (bounds_of start) (omega (arith, c.before.before.boundaries.ensures.counted, c.if1.true)))
+    no_boundary start.requires.accepted
+    (length_none (bounds_of start) (omega (arith, c.boundaries-n.ensures.counted, c.if-n-eq0.true)))
 
-array-share-prefix-bounds : tie.Need-array-share-prefix-bounds
-array-share-prefix-bounds c = copied_within c.before.before.boundaries.ensures
+array_share-prefix-bounds : tie.Need-slice_bounds-bounds-end
+array_share-prefix-bounds c = copied_within c.boundaries-n.ensures
 
 -- ---- the words
 
-slice-aggregate-lay-reach : tie.Need-slice-aggregate-lay-reach
-slice-aggregate-lay-reach c = copied_counted c.before.before.before.boundaries.ensures
+slice_aggregate-lay_reach : tie.Need-slice_bounds-lay_reach-end
+slice_aggregate-lay_reach c = copied_counted c.boundaries-n.ensures
 
-slice-aggregate-lay-reach-2 : tie.Need-slice-aggregate-lay-reach-2
-slice-aggregate-lay-reach-2 c = search rules
+slice_aggregate-lay_reach-2 : tie.Need-slice_bounds-lay_reach-end-2
+slice_aggregate-lay_reach-2 c = search rules
 
-lay-reach-requires : tie.Need-lay-reach-requires
-lay-reach-requires c κs =
-    let read = c.before.before.before.before in ((entered read).requires, (copied_front read.boundaries.ensures, search rules))
+lay_reach-requires : tie.Need-lay_reach-requires
+lay_reach-requires c κs =
+    let read = c.before.before.before.before in ((entered read).requires, (copied_front read.boundaries-n.ensures, search rules))
 
-limits-of-requires : tie.Need-limits-of-requires
-limits-of-requires c κs = search rules
+limits_of-requires : tie.Need-limits_of-cap-requires
+limits_of-requires c κs = search rules
 
-slice-aggregate-last-reached : tie.Need-slice-aggregate-last-reached
-slice-aggregate-last-reached c = search rules
+slice_aggregate-last_reached : tie.Need-slice_bounds-last_reached-end
+slice_aggregate-last_reached c = search rules
 
 -- ---- the count
 
 -- the cap is that of the record's edition, for which there is room
-cap-is : (c : tie.After-limits-of) → c.Limits-of.result.units ≡ (limits_of (entered (reading (laying c))).args.bytes.now).units
-cap-is c = ap (λ (l : Limits). l.units) (c.Limits-of.ensures ∙ laid_limits (entered (reading (laying c))).requires)
+cap-is : (c : tie.After-limits_of-cap) → c.limits_of-cap.result.units ≡ (limits_of (entered (reading (laying c))).args.bytes.now).units
+cap-is c = ap (λ (l : Limits). l.units) (c.limits_of-cap.ensures ∙ laid_limits (entered (reading (laying c))).requires)
 
-room : (c : tie.After-limits-of) → c.Limits-of.result.units < unit_counts
+room : (c : tie.After-limits_of-cap) → c.limits_of-cap.result.units < unit_counts
 room c = omega (arith, cap-is c, (own_moderate (entered (reading (laying c))).args.bytes.now).units)
 
-last-reached-requires : tie.Need-last-reached-requires
-last-reached-requires c κs =
+last_reached-requires : tie.Need-last_reached-requires
+last_reached-requires c κs =
     let laid = laying c.before in
     let start = entered (reading laid) in
-    let reach = laid.lay-reach.ensures in
+    let reach = laid.lay_reach.ensures in
     let stage = stage_of start.args.which (phrase_of start.args.bytes.now) in (
       reach.whole,
       room c.before,
@@ -92,40 +92,40 @@ last-reached-requires c κs =
         arith,
         reached_is reach.searched start.args.strictness 0 (omega arith),
         starts_first (kept (phrase_of start.args.bytes.now) stage) stage.boundaries start.args.strictness,
-        c.before.before.before.before.before.before.if1.false,
+        c.if-n-eq0.false,
       ),
     )
 
-cast-t21 : tie.Need-overflow-cast-t21
-cast-t21 c = record { fits = omega (arith, c.last-reached.ensures.capped, room c.before.before) }
+cast-t21 : tie.Need-overflow_cast-result
+cast-t21 c = record { fits = omega (arith, c.last_reached.ensures.capped, room c.before.before) }
 
-returns-2 : tie.Need-returns-2
+returns-2 : tie.Need-returns
 returns-2 c =
     let limited = c.before.before in
     let start = entered (reading (laying limited)) in
     let phrase = phrase_of start.args.bytes.now in
     let stage = stage_of start.args.which phrase in
-    let counted = (reading (laying limited)).boundaries.ensures.counted in
-    is_counted start.pre.accepted
-    (subst (λ (cap : ℕ). Most (paths_of phrase stage start.args.strictness) cap c.last-reached.result) (cap-is limited)
-    (words_most phrase stage (boundaries_fit start.pre start.args.which).ascending start.args.strictness
-    (laying limited).lay-reach.ensures.searched (room limited)
-    (subst (λ (n : ℕ). LastReached (reached_by (laying limited).lay-reach.new.1.1.1.1.0 start.args.strictness) n
-    limited.Limits-of.result.units c.last-reached.result) counted c.last-reached.ensures)))
+    let counted = (reading (laying limited)).boundaries-n.ensures.counted in
+    is_counted start.requires.accepted
+    (subst (λ (cap : ℕ). Most (paths_of phrase stage start.args.strictness) cap c.last_reached.result) (cap-is limited)
+    (words_most phrase stage (boundaries_fit start.requires start.args.which).ascending start.args.strictness
+    (laying limited).lay_reach.ensures.searched (room limited)
+    (subst (λ (n : ℕ). LastReached (reached_by (laying limited).lay_reach.new.words start.args.strictness) n
+    limited.limits_of-cap.result.units c.last_reached.result) counted c.last_reached.ensures)))
 
-pub most-of-spec : {M : Type 1} → statement M
-most-of-spec =
+pub most_of_spec : {M : Type 1} → statement M
+most_of_spec =
     tie.close
     (tie.spec
-    slice-aggregate-boundaries
+    slice_aggregate-boundaries
     boundaries-requires
     returns
-    array-share-prefix-bounds
-    slice-aggregate-lay-reach
-    slice-aggregate-lay-reach-2
-    lay-reach-requires
-    limits-of-requires
-    slice-aggregate-last-reached
-    last-reached-requires
+    array_share-prefix-bounds
+    slice_aggregate-lay_reach
+    slice_aggregate-lay_reach-2
+    lay_reach-requires
+    limits_of-requires
+    slice_aggregate-last_reached
+    last_reached-requires
     cast-t21
     returns-2)
