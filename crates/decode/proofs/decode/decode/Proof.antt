@@ -13,75 +13,75 @@ use Rattle.decode.proofs.decode.decode.Tie as tie
 
 -- ---- the places, each from the next one named
 
-abbrev entered : tie.After-checked2 → tie.Start
-entered c = c.before.before.before.before.before.before.before
+abbrev entered : tie.In-Accepted → tie.Start
+entered c = c.before.before.before.before.before.before
 
-abbrev found : tie.After-decode-accepted → tie.After-checked2
-found c = c.before.before.before.before.before
+abbrev found : tie.After-decode_accepted → tie.In-Accepted
+found c = c.before.before.before.before
 
-abbrev decoded : tie.After-struct-known → tie.After-decode-accepted
+abbrev decoded : tie.After-struct_known-1 → tie.After-decode_accepted
 decoded c = c.before.before.before.before.before.before.before
 
-check-areas-requires : tie.Need-check-areas-requires
-check-areas-requires c κs = search rules
+check_areas-requires : tie.Need-check_areas-checked-requires
+check_areas-requires c κs = search rules
 
-enum-known-checked : tie.Need-enum-known-checked
-enum-known-checked c = search rules
+enum_known-checked : tie.Need-enum_known-checked
+enum_known-checked c = search rules
 
-enum-known-checked-2 : tie.Need-enum-known-checked-2
-enum-known-checked-2 c = search rules
+enum_known-checked-2 : tie.Need-enum_known-checked-in-Accepted-1
+enum_known-checked-2 c = search rules
 
 -- the call is accepted, with this layout
-call : (c : tie.After-checked2) →
+call : (c : tie.In-Accepted) →
     let a = (entered c).args in
-    AcceptedCall a.«record».now (length a.best.now) (length a.back.now) (length a.out.now) c.checked2.given.0.0
-call c = accepted_call _ _ _ _ _ (sym c.before.before.check-areas.ensures ∙ c.checked2.given.1)
+    AcceptedCall a.«record».now (length a.best.now) (length a.back.now) (length a.out.now) c.in-Accepted.at
+call c = accepted_call _ _ _ _ _ (sym c.check_areas-checked.ensures ∙ c.in-Accepted.is)
 
-decode-accepted-requires : tie.Need-decode-accepted-requires
-decode-accepted-requires c κs =
-    let ok = call c.before.before.before.before in
+decode_accepted-requires : tie.Need-decode_accepted-requires
+decode_accepted-requires c κs =
+    let ok = call c.before.before.before in
     (ok.laid, record { values = ok.values; marks = ok.marks; words = ok.words })
 
-cast-count : tie.Need-overflow-cast-count
+cast-count : tie.Need-overflow_cast-count
 cast-count c =
-    let at = (found (decoded c)).checked2.given.0.0 in
+    let at = (found (decoded c)).in-Accepted.at in
     omega (arith, (counts (call (found (decoded c))).laid).candidates, (moderate at.edition).candidates)
 
-returns : tie.Need-returns
+returns : tie.Need-returns-in-Refused
 returns c =
-    let a = c.before.before.before.before.before.before.before.before.args in
+    let a = c.args in
     decodes_refused a.«record».now a.best.now a.back.now a.out.now _
     (refused_call a.«record».now (length a.best.now) (length a.back.now) (length a.out.now) _
-    (sym c.before.before.before.check-areas.ensures ∙ c.before.checked.given.1))
+    (sym c.check_areas-checked.ensures ∙ c.in-Refused.is))
 
-same_length : tie.Need-same-length
-same_length c = (decoded c).decode-accepted.auto.1.1.0
+same_length : tie.Need-shape_of-best
+same_length c = (decoded c).decode_accepted.auto.best
 
-same-length-2 : tie.Need-same-length-2
-same-length-2 c = (decoded c).decode-accepted.auto.1.1.1.0
+same_length-2 : tie.Need-shape_of-back
+same_length-2 c = (decoded c).decode_accepted.auto.back
 
-same-length-3 : tie.Need-same-length-3
-same-length-3 c = search rules
+same_length-3 : tie.Need-shape_of-out
+same_length-3 c = search rules
 
-returns-2 : tie.Need-returns-2
+returns-2 : tie.Need-returns-in-Accepted
 returns-2 c =
     let ok = call (found (decoded c)) in
     let a = (entered (found (decoded c))).args in
-    let left = (decoded c).decode-accepted.ensures in
-    decodes_accepted a.«record».now a.best.now a.back.now a.out.now _ ok.none-given (sym (candidate_count ok.laid))
+    let left = (decoded c).decode_accepted.ensures in
+    decodes_accepted a.«record».now a.best.now a.back.now a.out.now _ ok.none_given (sym (candidate_count ok.laid))
     left.words left.values left.marks
 
-pub decode-spec : {M : Type 1} → statement M
-decode-spec =
+pub decode_spec : {M : Type 1} → statement M
+decode_spec =
     tie.close
     (tie.spec
-    check-areas-requires
-    enum-known-checked
-    enum-known-checked-2
-    decode-accepted-requires
+    check_areas-requires
+    enum_known-checked
+    enum_known-checked-2
+    decode_accepted-requires
     cast-count
     returns
     same_length
-    same-length-2
-    same-length-3
+    same_length-2
+    same_length-3
     returns-2)

@@ -21,93 +21,93 @@ use Rattle.decode.proofs.decode.decode_accepted.Tie as tie
 abbrev entered : tie.After-clear → tie.Start
 entered c = c.before.before.before.before.before.before.before.before.before
 
-abbrev cleared : tie.After-plan-of → tie.After-clear
+abbrev cleared : tie.After-plan_of-plan → tie.After-clear
 cleared c = c.before.before.before.before.before
 
-abbrev planned : tie.After-lay-stage → tie.After-plan-of
+abbrev planned : tie.After-lay_stage → tie.After-plan_of-plan
 planned c = c.before.before.before
 
-abbrev laid : tie.After-lay-added → tie.After-lay-stage
+abbrev laid : tie.After-lay_added → tie.After-lay_stage
 laid c = c.before.before.before.before.before
 
-abbrev added : tie.After-put-candidates → tie.After-lay-added
+abbrev added : tie.After-put_candidates → tie.After-lay_added
 added c = c.before.before.before.before.before.before.before.before.before.before
 
 -- ---- the cells of the record's edition
 
-limits-of-requires : tie.Need-limits-of-requires
-limits-of-requires c κs = search rules
+limits_of-requires : tie.Need-limits_of-limits-requires
+limits_of-requires c κs = search rules
 
-work-cells-requires : tie.Need-work-cells-requires
-work-cells-requires c κs = subst⁻¹ Moderate c.before.before.Limits-of.ensures (moderate _)
+work_cells-requires : tie.Need-work_cells-requires
+work_cells-requires c κs = subst⁻¹ Moderate c.limits_of-limits.ensures (moderate _)
 
-cells : (c : tie.After-work-cells)
-    → c.work-cells.result ≡ work_cells (limits_of c.before.before.before.before.before.before.before.before.args.«record».now)
+cells : (c : tie.After-work_cells)
+    → c.work_cells.result ≡ work_cells (limits_of c.args.«record».now)
 cells c =
-    c.work-cells.ensures
+    c.work_cells.ensures
     ∙ ap work_cells
-    (c.before.before.before.Limits-of.ensures
-    ∙ laid_limits c.before.before.before.before.before.before.before.before.requires.0)
+    (c.limits_of-limits.ensures
+    ∙ laid_limits c.requires.0)
 
 clear-requires : tie.Need-clear-requires
 clear-requires c κs =
-    let enough = c.before.before.before.before.before.before.before.before.requires.1 in
+    let enough = c.requires.1 in
     (omega (arith, cells c, enough.values), omega (arith, cells c, enough.marks))
 
 -- what the clearing leaves, by them
 values : (c : tie.After-clear) →
     let n = work_cells (limits_of (entered c).args.«record».now) in
-    c.clear.new.0 ≡ replicate n (of_bits binary64 0) ++ drop n (entered c).args.best.now
+    c.clear.new.best ≡ replicate n (of_bits binary64 0) ++ drop n (entered c).args.best.now
 values c =
-    subst (λ (n : ℕ). c.clear.new.0 ≡ replicate n (of_bits binary64 0) ++ drop n (entered c).args.best.now) (cells c.before)
+    subst (λ (n : ℕ). c.clear.new.best ≡ replicate n (of_bits binary64 0) ++ drop n (entered c).args.best.now) (cells c.before)
     c.clear.ensures.0
 
 marks : (c : tie.After-clear) →
     let n = work_cells (limits_of (entered c).args.«record».now) in
-    c.clear.new.1.0 ≡ replicate n 0 ++ drop n (entered c).args.back.now
+    c.clear.new.back ≡ replicate n 0 ++ drop n (entered c).args.back.now
 marks c =
-    subst (λ (n : ℕ). c.clear.new.1.0 ≡ replicate n 0 ++ drop n (entered c).args.back.now) (cells c.before)
+    subst (λ (n : ℕ). c.clear.new.back ≡ replicate n 0 ++ drop n (entered c).args.back.now) (cells c.before)
     c.clear.ensures.1
 
 -- ---- the stages
 
-plan-of-requires : tie.Need-plan-of-requires
-plan-of-requires c κs = (entered c.before.before.before.before).requires.0
+plan_of-requires : tie.Need-plan_of-plan-requires
+plan_of-requires c κs = (entered c.before.before.before.before).requires.0
 
-slice-aggregate-lay-stage : tie.Need-slice-aggregate-lay-stage
-slice-aggregate-lay-stage c = search rules
+slice_aggregate-lay_stage : tie.Need-slice_bounds-lay_stage-end
+slice_aggregate-lay_stage c = search rules
 
-slice-aggregate-lay-stage-2 : tie.Need-slice-aggregate-lay-stage-2
-slice-aggregate-lay-stage-2 c = search rules
+slice_aggregate-lay_stage-2 : tie.Need-slice_bounds-lay_stage-end-2
+slice_aggregate-lay_stage-2 c = search rules
 
-lay-stage-requires : tie.Need-lay-stage-requires
-lay-stage-requires c κs = ((entered (cleared c.before.before)).requires.0, (tt, (search rules, search rules)))
+lay_stage-requires : tie.Need-lay_stage-requires
+lay_stage-requires c κs = ((entered (cleared c.before.before)).requires.0, (tt, (search rules, search rules)))
 
-slice-aggregate-lay-added : tie.Need-slice-aggregate-lay-added
-slice-aggregate-lay-added c = search rules
+slice_aggregate-lay_added : tie.Need-slice_bounds-lay_added-end
+slice_aggregate-lay_added c = search rules
 
-slice-aggregate-lay-added-2 : tie.Need-slice-aggregate-lay-added-2
-slice-aggregate-lay-added-2 c = search rules
+slice_aggregate-lay_added-2 : tie.Need-slice_bounds-lay_added-end-2
+slice_aggregate-lay_added-2 c = search rules
 
-lay-added-requires : tie.Need-lay-added-requires
-lay-added-requires c κs = ((entered (cleared (planned c.before.before.before.before))).requires.0, (search rules, search rules))
+lay_added-requires : tie.Need-lay_added-requires
+lay_added-requires c κs = ((entered (cleared (planned c.before.before.before.before))).requires.0, (search rules, search rules))
 
 -- ---- the candidates
 
-slice-aggregate-put-candidates : tie.Need-slice-aggregate-put-candidates
-slice-aggregate-put-candidates c = search rules
+slice_aggregate-put_candidates : tie.Need-slice_bounds-put_candidates-end
+slice_aggregate-put_candidates c = search rules
 
-slice-aggregate-put-candidates-2 : tie.Need-slice-aggregate-put-candidates-2
-slice-aggregate-put-candidates-2 c = search rules
+slice_aggregate-put_candidates-2 : tie.Need-slice_bounds-put_candidates-end-2
+slice_aggregate-put_candidates-2 c = search rules
 
-slice-aggregate-put-candidates-3 : tie.Need-slice-aggregate-put-candidates-3
-slice-aggregate-put-candidates-3 c = search rules
+slice_aggregate-put_candidates-3 : tie.Need-slice_bounds-put_candidates-end-3
+slice_aggregate-put_candidates-3 c = search rules
 
-slice-aggregate-put-candidates-4 : tie.Need-slice-aggregate-put-candidates-4
-slice-aggregate-put-candidates-4 c = search rules
+slice_aggregate-put_candidates-4 : tie.Need-slice_bounds-put_candidates-end-4
+slice_aggregate-put_candidates-4 c = search rules
 
-put-candidates-requires : tie.Need-put-candidates-requires
-put-candidates-requires c κs =
+put_candidates-requires : tie.Need-put_candidates-requires
+put_candidates-requires c κs =
     let at_Added = c.before.before.before.before.before.before.before.before.before in
     let at-laid = laid at_Added in
     let at-plan = planned at-laid in
@@ -115,59 +115,59 @@ put-candidates-requires c κs =
     let start = entered at_clear in
     let n = work_cells (limits_of start.args.«record».now) in (
       record {
-        laid = start.pre.0;
-        planned = at-plan.plan-of.ensures;
-        lent = both_prepared at-plan.plan-of.ensures at-laid.lay-stage.ensures at_Added.lay-added.ensures;
+        laid = start.requires.0;
+        planned = at-plan.plan_of-plan.ensures;
+        lent = both_prepared at-plan.plan_of-plan.ensures at-laid.lay_stage.ensures at_Added.lay_added.ensures;
         unused =
-            unused_cleared start.args.best.now start.args.back.now n (values at_clear) (marks at_clear) start.pre.1.values
-            start.pre.1.marks;
+            unused_cleared start.args.best.now start.args.back.now n (values at_clear) (marks at_clear) start.requires.1.values
+            start.requires.1.marks;
       },
-      start.pre.1.words,
+      start.requires.1.words,
     )
 
-same_length : tie.Need-same-length
+same_length : tie.Need-shape_of-best
 same_length c =
     let put = c.before.before.before.before.before.before in
-    put.put-candidates.auto.0 ∙ (cleared (planned (laid (added put)))).clear.auto.0
+    put.put_candidates.auto.best ∙ (cleared (planned (laid (added put)))).clear.auto.best
 
-same-length-2 : tie.Need-same-length-2
-same-length-2 c =
+same_length-2 : tie.Need-shape_of-back
+same_length-2 c =
     let put = c.before.before.before.before.before.before in
-    put.put-candidates.auto.1.0 ∙ (cleared (planned (laid (added put)))).clear.auto.1.0
+    put.put_candidates.auto.back ∙ (cleared (planned (laid (added put)))).clear.auto.back
 
-same-length-3 : tie.Need-same-length-3
-same-length-3 c = search rules
+same_length-3 : tie.Need-shape_of-out
+same_length-3 c = search rules
 
 returns : tie.Need-returns
 returns c =
     let put = c.before.before.before.before.before.before in
     let at_clear = cleared (planned (laid (added put))) in
     record {
-      words = put.put-candidates.ensures.0;
-      values = put.put-candidates.ensures.1.0 ∙ values at_clear;
-      marks = put.put-candidates.ensures.1.1 ∙ marks at_clear;
+      words = put.put_candidates.ensures.0;
+      values = put.put_candidates.ensures.1.0 ∙ values at_clear;
+      marks = put.put_candidates.ensures.1.1 ∙ marks at_clear;
     }
 
-pub decode-accepted-spec : {M : Type 1} → statement M
-decode-accepted-spec =
+pub decode_accepted_spec : {M : Type 1} → statement M
+decode_accepted_spec =
     tie.close
     (tie.spec
-    limits-of-requires
-    work-cells-requires
+    limits_of-requires
+    work_cells-requires
     clear-requires
-    plan-of-requires
-    slice-aggregate-lay-stage
-    slice-aggregate-lay-stage-2
-    lay-stage-requires
-    slice-aggregate-lay-added
-    slice-aggregate-lay-added-2
-    lay-added-requires
-    slice-aggregate-put-candidates
-    slice-aggregate-put-candidates-2
-    slice-aggregate-put-candidates-3
-    slice-aggregate-put-candidates-4
-    put-candidates-requires
+    plan_of-requires
+    slice_aggregate-lay_stage
+    slice_aggregate-lay_stage-2
+    lay_stage-requires
+    slice_aggregate-lay_added
+    slice_aggregate-lay_added-2
+    lay_added-requires
+    slice_aggregate-put_candidates
+    slice_aggregate-put_candidates-2
+    slice_aggregate-put_candidates-3
+    slice_aggregate-put_candidates-4
+    put_candidates-requires
     same_length
-    same-length-2
-    same-length-3
+    same_length-2
+    same_length-3
     returns)

@@ -7,18 +7,18 @@ use borrow.Author.Rules.{rules}
 use Rattle.decode.proofs.entry.insert_scored.Statement.{statement}
 use Rattle.decode.proofs.entry.insert_scored.Tie as tie
 
-slice-aggregate-insert-entry : tie.Need-slice-aggregate-insert-entry
-slice-aggregate-insert-entry c = search rules
+slice_aggregate-insert_entry : tie.Need-slice_bounds-insert_entry-end
+slice_aggregate-insert_entry c = search rules
 
-slice-aggregate-insert-entry-2 : tie.Need-slice-aggregate-insert-entry-2
-slice-aggregate-insert-entry-2 c = search rules
+slice_aggregate-insert_entry-2 : tie.Need-slice_bounds-insert_entry-end-2
+slice_aggregate-insert_entry-2 c = search rules
 
-slice-aggregate-insert-entry-3 : tie.Need-slice-aggregate-insert-entry-3
-slice-aggregate-insert-entry-3 c = search rules
+slice_aggregate-insert_entry-3 : tie.Need-slice_bounds-insert_entry-end-3
+slice_aggregate-insert_entry-3 c = search rules
 
-insert-entry-requires : tie.Need-insert-entry-requires
-insert-entry-requires c κs =
-    let pre = c.before.before.before.before.before.before.before.before.before.requires in
+insert_entry-requires : tie.Need-insert_entry-requires
+insert_entry-requires c κs =
+    let pre = c.requires in
     let s = pre.2.1 in (
       pre.0,
       record {
@@ -32,22 +32,22 @@ insert-entry-requires c κs =
       },
     )
 
-same_length : tie.Need-same-length
+same_length : tie.Need-shape_of-out
 same_length c = search rules
 
 returns : tie.Need-returns
 returns c =
-    let a = c.before.before.before.before.before.before.before.before.before.before.before.before.args in
-    let insert = c.before.before.insert_entry in
-    λ e s. subst (λ (x : Entry). Inserted a.most a.number x a.out.now insert.new.0) s.whole insert.ensures
+    let a = c.args in
+    let insert = c.insert_entry in
+    λ e s. subst (λ (x : Entry). Inserted a.most a.number x a.out.now insert.new.out) s.whole insert.ensures
 
-pub insert-scored-spec : {M : Type 1} → statement M
-insert-scored-spec =
+pub insert_scored_spec : {M : Type 1} → statement M
+insert_scored_spec =
     tie.close
     (tie.spec
-    slice-aggregate-insert-entry
-    slice-aggregate-insert-entry-2
-    slice-aggregate-insert-entry-3
-    insert-entry-requires
+    slice_aggregate-insert_entry
+    slice_aggregate-insert_entry-2
+    slice_aggregate-insert_entry-3
+    insert_entry-requires
     same_length
     returns)

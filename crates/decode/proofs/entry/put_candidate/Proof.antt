@@ -18,72 +18,72 @@ use borrow.Author.Rules.{rules}
 use Rattle.decode.proofs.entry.put_candidate.Statement.{statement}
 use Rattle.decode.proofs.entry.put_candidate.Tie as tie
 
-search-requires : tie.Need-search-requires
+search-requires : tie.Need-search-searched-requires
 search-requires c κs =
-    let pre = c.before.before.before.before.before.before.before.before.before.before.before.requires in
+    let pre = c.requires in
     let ready = pre.0 in (
       (record { laid = ready.laid; figures = ready.planned.costs; listed = pre.1.0 }, ready.planned.runs),
       (both_lists ready.lent, ready.unused),
     )
 
-score-candidate-requires : tie.Need-score-candidate-requires
-score-candidate-requires c κs =
+score_candidate-requires : tie.Need-score_candidate-entry-requires
+score_candidate-requires c κs =
     let start =
     c.before.before.before.before.before.before.before.before.before.before.before.before.before.before.before.before in
-    let ready = start.pre.0 in (
+    let ready = start.requires.0 in (
       ready.laid,
       (
-        start.pre.1.0,
+        start.requires.1.0,
         (
           ready.planned,
           (
-            c.before.before.before.before.search.ensures.0,
-            record { figures = start.args.figures.now; added_figures = start.args.added-figures.now; lent = ready.lent },
+            c.search-searched.ensures.0,
+            record { figures = start.args.figures.now; added_figures = start.args.added_figures.now; lent = ready.lent },
           ),
         ),
       ),
     )
 
-limits-of-requires : tie.Need-limits-of-requires
-limits-of-requires c κs = search rules
+limits_of-requires : tie.Need-limits_of-requires
+limits_of-requires c κs = search rules
 
-abbrev entered : tie.After-limits-of → tie.Start
+abbrev entered : tie.After-limits_of → tie.Start
 entered c =
-    c.before.before.before.before.before.before.before.before.before.before.before.before.before.before.before.before.before.before.before
+    c.before.before.before.before.before.before.before.before.before.before.before.before.before.before.before.before.before.before.before.before
 
-abbrev scored : tie.After-limits-of → tie.After-score-candidate
+abbrev scored : tie.After-limits_of → tie.After-score_candidate-entry
 scored c = c.before.before
 
 -- the numbers of the record's edition
-numbers : (c : tie.After-limits-of) → c.Limits-of.result ≡ limits_of (entered c).args.bytes.now
-numbers c = c.Limits-of.ensures ∙ laid_limits (entered c).requires.0.laid
+numbers : (c : tie.After-limits_of) → c.limits_of.result ≡ limits_of (entered c).args.bytes.now
+numbers c = c.limits_of.ensures ∙ laid_limits (entered c).requires.0.laid
 
 -- the candidate's entry
-abbrev entry : tie.After-limits-of → Entry
+abbrev entry : tie.After-limits_of → Entry
 entry c = entry_of (phrase_of (entered c).args.bytes.now) (candidate_of (phrase_of (entered c).args.bytes.now) (entered c).args.number)
 
-scored-as : (c : tie.After-limits-of) → ScoredAs c.Limits-of.result.units (entry c) (scored c).score-candidate.result
+scored-as : (c : tie.After-limits_of) → ScoredAs c.limits_of.result.units (entry c) (scored c).score_candidate-entry.result
 scored-as c =
-    subst⁻¹ (λ (l : Limits). ScoredAs l.units (entry c) (scored c).score-candidate.result) (numbers c)
-    (scored c).score-candidate.ensures
+    subst⁻¹ (λ (l : Limits). ScoredAs l.units (entry c) (scored c).score_candidate-entry.result) (numbers c)
+    (scored c).score_candidate-entry.ensures
 
-insert-scored-requires : tie.Need-insert-scored-requires
-insert-scored-requires c κs =
+insert_scored-requires : tie.Need-insert_scored-requires
+insert_scored-requires c κs =
     let start = entered c in (
       subst⁻¹ (λ (l : Limits). (start.args.number + 1) * entry_words l.units ≤ length start.args.out.now) (numbers c)
-          start.pre.1.1,
+          start.requires.1.1,
       subst⁻¹ (λ (l : Limits). l.units ≤ most_units) (numbers c) (own_moderate start.args.bytes.now).units,
       (entry c, scored-as c),
     )
 
-same_length : tie.Need-same-length
+same_length : tie.Need-shape_of-best
 same_length c = search rules
 
-same-length-2 : tie.Need-same-length-2
-same-length-2 c = search rules
+same_length-2 : tie.Need-shape_of-back
+same_length-2 c = search rules
 
-same-length-3 : tie.Need-same-length-3
-same-length-3 c = search rules
+same_length-3 : tie.Need-shape_of-out
+same_length-3 c = search rules
 
 returns : tie.Need-returns
 returns c =
@@ -91,20 +91,20 @@ returns c =
     let at-limits = put.before in
     let start = entered at-limits in (
       subst (λ (l : Limits). Inserted l.units start.args.number (entry at-limits) start.args.out.now
-          put.insert-scored.new.0) (numbers at-limits)
-          (put.insert-scored.ensures (entry at-limits) (scored-as at-limits)),
-      c.before.before.before.before.before.before.before.before.before.before.search.ensures.1,
+          put.insert_scored.new.out) (numbers at-limits)
+          (put.insert_scored.ensures (entry at-limits) (scored-as at-limits)),
+      c.search-searched.ensures.1,
     )
 
-pub put-candidate-spec : {M : Type 1} → statement M
-put-candidate-spec =
+pub put_candidate_spec : {M : Type 1} → statement M
+put_candidate_spec =
     tie.close
     (tie.spec
     search-requires
-    score-candidate-requires
-    limits-of-requires
-    insert-scored-requires
+    score_candidate-requires
+    limits_of-requires
+    insert_scored-requires
     same_length
-    same-length-2
-    same-length-3
+    same_length-2
+    same_length-3
     returns)

@@ -6,36 +6,36 @@ use borrow.Author.Rules.{rules}
 use Rattle.decode.proofs.lay.lay_added.Statement.{statement}
 use Rattle.decode.proofs.lay.lay_added.Tie as tie
 
-lay-stage-requires : tie.Need-lay-stage-requires
-lay-stage-requires c κs =
-    let pre = c.before.before.before.before.before.before.before.requires in
-    (pre.0, (some_added pre.0 c.before.before.if1.true, pre.1))
+lay_stage-requires : tie.Need-lay_stage-requires
+lay_stage-requires c κs =
+    let pre = c.requires in
+    (pre.0, (some_added pre.0 c.if-at-ne0.true, pre.1))
 
-same_length : tie.Need-same-length
+same_length : tie.Need-shape_of-words
 same_length c = search rules
 
-same-length-2 : tie.Need-same-length-2
-same-length-2 c = search rules
+same_length-2 : tie.Need-shape_of-figures
+same_length-2 c = search rules
 
-returns : tie.Need-returns
+returns : tie.Need-returns-then-at-ne0
 returns c =
-    let laid = c.before.before.before.before.before.before.before.before.before.before.before.before.requires.0 in
+    let laid = c.requires.0 in
     record {
-      there = λ e. c.before.before.before.before.lay-stage.ensures;
-      lacking = λ e. absurd (true≢false (sym (one_added laid c.before.before.before.before.before.before.before.if1.true) ∙ e));
+      there = λ e. c.lay_stage.ensures;
+      lacking = λ e. absurd (true≢false (sym (one_added laid c.if-at-ne0.true) ∙ e));
     }
 
-returns-2 : tie.Need-returns-2
+returns-2 : tie.Need-returns-else-at-ne0
 returns-2 c =
-    let laid = c.before.before.before.before.before.requires.0 in
-    record { there = λ e. absurd (true≢false (sym e ∙ none_added laid c.if1.false)); lacking = λ e. (refl, refl) }
+    let laid = c.requires.0 in
+    record { there = λ e. absurd (true≢false (sym e ∙ none_added laid c.if-at-ne0.false)); lacking = λ e. (refl, refl) }
 
-pub lay-added-spec : {M : Type 1} → statement M
-lay-added-spec =
+pub lay_added_spec : {M : Type 1} → statement M
+lay_added_spec =
     tie.close
     (tie.spec
-    lay-stage-requires
+    lay_stage-requires
     same_length
-    same-length-2
+    same_length-2
     returns
     returns-2)

@@ -13,50 +13,50 @@ use borrow.Author.Rules.{rules}
 use Rattle.decode.proofs.plan.runs_of.Statement.{statement}
 use Rattle.decode.proofs.plan.runs_of.Tie as tie
 
-slice-aggregate-anchors : tie.Need-slice-aggregate-anchors
-slice-aggregate-anchors c = search rules
+slice_aggregate-anchors : tie.Need-slice_bounds-anchors-end
+slice_aggregate-anchors c = search rules
 
-anchors-requires : tie.Need-anchors-requires
-anchors-requires c κs = let laid = c.before.before.requires.0 in (laid, few_anchors_law laid Nuclei)
+anchors-requires : tie.Need-anchors-count-requires
+anchors-requires c κs = let laid = c.requires.0 in (laid, few_anchors_law laid Nuclei)
 
 mask-requires : tie.Need-mask-requires
 mask-requires c κs = search rules
 
-array-share-prefix-nuclei : tie.Need-array-share-prefix-nuclei
-array-share-prefix-nuclei c = copied_within c.before.before.anchors.ensures
+array_share-prefix-nuclei : tie.Need-slice_bounds-nuclei-end
+array_share-prefix-nuclei c = copied_within c.anchors-count.ensures
 
-slice-aggregate-has-nucleus : tie.Need-slice-aggregate-has-nucleus
-slice-aggregate-has-nucleus c = copied_counted c.before.before.before.anchors.ensures
+slice_aggregate-has_nucleus : tie.Need-slice_bounds-has_nucleus-end
+slice_aggregate-has_nucleus c = copied_counted c.anchors-count.ensures
 
-has-nucleus-requires : tie.Need-has-nucleus-requires
-has-nucleus-requires c κs =
-    subst⁻¹ (λ (l : List ℕ). length l ≤ most_anchors) (copied_front c.before.before.before.anchors.ensures)
-    (few_anchors_law c.before.before.before.before.before.before.requires.0 Nuclei)
+has_nucleus-requires : tie.Need-has_nucleus-voiced-requires
+has_nucleus-requires c κs =
+    subst⁻¹ (λ (l : List ℕ). length l ≤ most_anchors) (copied_front c.anchors-count.ensures)
+    (few_anchors_law c.requires.0 Nuclei)
 
 spoken-requires : tie.Need-spoken-requires
 spoken-requires c κs = search rules
 
 returns : tie.Need-returns
 returns c =
-    let pre = c.before.before.before.before.before.before.before.before.before.requires in
+    let pre = c.requires in
     record {
-      spoken = c.before.spoken.ensures ∙ ap speaks pre.1;
+      spoken = c.spoken.ensures ∙ ap speaks pre.1;
       voiced =
-          c.before.before.has-nucleus.ensures
-          ∙ runs_voiced pre.0 c.before.before.before.before.mask.ensures
-          (copied_front c.before.before.before.before.before.before.anchors.ensures);
+          c.has_nucleus-voiced.ensures
+          ∙ runs_voiced pre.0 c.mask.ensures
+          (copied_front c.anchors-count.ensures);
       added = runs_added pre.0;
     }
 
-pub runs-of-spec : {M : Type 1} → statement M
-runs-of-spec =
+pub runs_of_spec : {M : Type 1} → statement M
+runs_of_spec =
     tie.close
     (tie.spec
-    slice-aggregate-anchors
+    slice_aggregate-anchors
     anchors-requires
     mask-requires
-    array-share-prefix-nuclei
-    slice-aggregate-has-nucleus
-    has-nucleus-requires
+    array_share-prefix-nuclei
+    slice_aggregate-has_nucleus
+    has_nucleus-requires
     spoken-requires
     returns)
