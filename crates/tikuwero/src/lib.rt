@@ -1,5 +1,4 @@
-// The C interface: the entries under their C names. A slice is a pointer and a length; a refusal is returned as minus its number.
-// include/tikuwero.h says what a C caller has to know.
+// What the C interface answers: the entries under their C names, a refusal as minus its number. The crate tikuwero_c exports them.
 
 #![tactic(auto)]
 
@@ -25,8 +24,7 @@ use spans::spans::{SpansAnswer, tbu_spans};
 const NO_BOUNDARY: i32 = 2147483647;
 
 // The number of entries in `out`.
-#[unsafe(no_mangle)]
-pub extern "C" fn tikuwero_decode(
+pub fn tikuwero_decode(
     record: &[u8],
     best: &mut [f64],
     back: &mut [u32],
@@ -41,8 +39,7 @@ pub extern "C" fn tikuwero_decode(
 }
 
 // 0, with the rate in `rate`.
-#[unsafe(no_mangle)]
-pub extern "C" fn tikuwero_rate_s(frames: &[u32], default_s: f64, rate: &mut f64) -> i32
+pub fn tikuwero_rate_s(frames: &[u32], default_s: f64, rate: &mut f64) -> i32
     ensures { RateCall frames.now default_s rate.old result rate.new }
 {
     match rate_s(frames, default_s) {
@@ -57,8 +54,7 @@ pub extern "C" fn tikuwero_rate_s(frames: &[u32], default_s: f64, rate: &mut f64
 }
 
 // The number of spans in `out`.
-#[unsafe(no_mangle)]
-pub extern "C" fn tikuwero_tbu_spans(
+pub fn tikuwero_tbu_spans(
     nuclei: &[u32],
     bounds: &[u32],
     lo_edge: u32,
@@ -76,8 +72,7 @@ pub extern "C" fn tikuwero_tbu_spans(
 }
 
 // 1 where the start is joined and 2 where the end is, added.
-#[unsafe(no_mangle)]
-pub extern "C" fn tikuwero_joins(voice: &[u8], pitched: &[u8], start: u32, end: u32) -> i32
+pub fn tikuwero_joins(voice: &[u8], pitched: &[u8], start: u32, end: u32) -> i32
     ensures { result ≡ status edge_flags (joins_of voice.now pitched.now start end) }
 {
     match joins(voice, pitched, start, end) {
@@ -91,8 +86,7 @@ pub extern "C" fn tikuwero_joins(voice: &[u8], pitched: &[u8], start: u32, end: 
 }
 
 // 1 for yes, 0 for no; `next` is a frame, or the word for none.
-#[unsafe(no_mangle)]
-pub extern "C" fn tikuwero_creaky_tail(
+pub fn tikuwero_creaky_tail(
     start: u32,
     end: u32,
     next: u32,
@@ -109,8 +103,7 @@ pub extern "C" fn tikuwero_creaky_tail(
 }
 
 // The most units of a path in a stage, or the number of "no path".
-#[unsafe(no_mangle)]
-pub extern "C" fn tikuwero_most_units(record: &[u8], stage: u32, strict: u32) -> i32
+pub fn tikuwero_most_units(record: &[u8], stage: u32, strict: u32) -> i32
     ensures { MostUnitsCall «record».now stage strict result }
 {
     match most_units(record, stage_named(stage), strictness_named(strict)) {

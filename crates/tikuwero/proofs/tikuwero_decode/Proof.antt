@@ -17,76 +17,76 @@ use Rattle.tikuwero.proofs.tikuwero_decode.Tie as tie
 decode-requires : tie.Need-decode-requires
 decode-requires c κs = search rules
 
-enum-known-count : tie.Need-enum-known-count
-enum-known-count c = search rules
+enum_known-count : tie.Need-enum_known-count
+enum_known-count c = search rules
 
-cast-result : tie.Need-overflow-cast-result
+cast-result : tie.Need-overflow_cast-result
 cast-result c =
-    let a = c.before.before.before.before.before.before.before.before.before.before.before.before.before.before.before.before.before.args in
-    let told = given outcome c.before.count.given.1 c.before.before.before.before.before.before.before.before.before.decode.ensures.answered in
+    let a = c.args in
+    let told = given outcome c.in-Entries.is c.decode.ensures.answered in
     let few = entries_within a.«record».now (length a.best.now) (length a.back.now) (length a.out.now) told in
     record { sfits = omega arith }
 
-enum-known-refusal : tie.Need-enum-known-refusal
-enum-known-refusal c = search rules
+enum_known-refusal : tie.Need-enum_known-refusal
+enum_known-refusal c = search rules
 
 number-requires : tie.Need-number-requires
 number-requires c κs = search rules
 
 small : (c : tie.After-number) → c.number.result < 2 ^ 31
 small c =
-    let few = number_within c.before.before.refusal.given.0.0 in
+    let few = number_within c.in-Refused.refusal in
     let same = c.number.ensures in
     omega arith
 
-cast-result-2 : tie.Need-overflow-cast-result-2
+cast-result-2 : tie.Need-overflow_cast-result-in-Refused
 cast-result-2 c = record { sfits = small c }
 
-sub_result : tie.Need-overflow-sub-result
+sub_result : tie.Need-overflow_sub-result
 sub_result c = minus_fits c.number.result (small c)
 
-same_length : tie.Need-same-length
+same_length : tie.Need-shape_of-best-in-Entries
 same_length c = search rules
 
-same-length-2 : tie.Need-same-length-2
-same-length-2 c = search rules
+same_length-2 : tie.Need-shape_of-back-in-Entries
+same_length-2 c = search rules
 
-same-length-3 : tie.Need-same-length-3
-same-length-3 c = search rules
+same_length-3 : tie.Need-shape_of-out-in-Entries
+same_length-3 c = search rules
 
-returns : tie.Need-returns
-returns c = decode_call c.before.count.given.1 (to_z_pos w32 (cast-result c).sfits) c.before.before.before.before.before.before.before.before.before.decode.ensures
+returns : tie.Need-returns-in-Entries
+returns c = decode_call c.in-Entries.is (to_z_pos w32 (cast-result c).sfits) c.decode.ensures
 
-same-length-4 : tie.Need-same-length-4
-same-length-4 c = search rules
+same_length-4 : tie.Need-shape_of-best-in-Refused
+same_length-4 c = search rules
 
-same-length-5 : tie.Need-same-length-5
-same-length-5 c = search rules
+same_length-5 : tie.Need-shape_of-back-in-Refused
+same_length-5 c = search rules
 
-same-length-6 : tie.Need-same-length-6
-same-length-6 c = search rules
+same_length-6 : tie.Need-shape_of-out-in-Refused
+same_length-6 c = search rules
 
-returns-2 : tie.Need-returns-2
+returns-2 : tie.Need-returns-in-Refused
 returns-2 c =
     let negative = minus_read c.number.result (small c) ∙ ap (λ (n : ℕ). neg_ℤ (pos n)) c.number.ensures in
-    decode_call c.before.before.refusal.given.1 negative c.before.before.before.before.before.before.before.before.before.before.decode.ensures
+    decode_call c.in-Refused.is negative c.decode.ensures
 
-pub tikuwero-decode-spec : {M : Type 1} → statement M
-tikuwero-decode-spec =
+pub tikuwero_decode_spec : {M : Type 1} → statement M
+tikuwero_decode_spec =
     tie.close
     (tie.spec
     decode-requires
-    enum-known-count
+    enum_known-count
     cast-result
-    enum-known-refusal
+    enum_known-refusal
     number-requires
     cast-result-2
     sub_result
     same_length
-    same-length-2
-    same-length-3
+    same_length-2
+    same_length-3
     returns
-    same-length-4
-    same-length-5
-    same-length-6
+    same_length-4
+    same_length-5
+    same_length-6
     returns-2)

@@ -13,74 +13,74 @@ use borrow.Author.Rules.{rules}
 use Rattle.tikuwero.proofs.tikuwero_most_units.Statement.{statement}
 use Rattle.tikuwero.proofs.tikuwero_most_units.Tie as tie
 
-stage-named-requires : tie.Need-stage-named-requires
-stage-named-requires c κs = search rules
+stage_named-requires : tie.Need-stage_named-requires
+stage_named-requires c κs = search rules
 
-strictness-named-requires : tie.Need-strictness-named-requires
-strictness-named-requires c κs = search rules
+strictness_named-requires : tie.Need-strictness_named-requires
+strictness_named-requires c κs = search rules
 
-most-units-requires : tie.Need-most-units-requires
-most-units-requires c κs = search rules
+most_units-requires : tie.Need-most_units-requires
+most_units-requires c κs = search rules
 
-enum_told : tie.Need-enum-told
+enum_told : tie.Need-enum_told-1
 enum_told c = search rules
 
-enum-known-units : tie.Need-enum-known-units
-enum-known-units c = search rules
+enum_known-units : tie.Need-enum_known-units
+enum_known-units c = search rules
 
-cast-result : tie.Need-overflow-cast-result
+cast-result : tie.Need-overflow_cast-result
 cast-result c =
-    let few = units_within (subst (Answers _ _ _) c.before.units.given.1 c.before.before.before.most-units.ensures) in
+    let few = units_within (subst (Answers _ _ _) c.in-Units.is c.most_units.ensures) in
     record { sfits = omega arith }
 
-enum-known-refusal : tie.Need-enum-known-refusal
-enum-known-refusal c = search rules
+enum_known-refusal : tie.Need-enum_known-refusal
+enum_known-refusal c = search rules
 
 number-requires : tie.Need-number-requires
 number-requires c κs = search rules
 
 small : (c : tie.After-number) → c.number.result < 2 ^ 31
 small c =
-    let few = number_within c.before.before.refusal.given.0.0 in
+    let few = number_within c.in-Refused.refusal in
     let same = c.number.ensures in
     omega arith
 
-cast-result-2 : tie.Need-overflow-cast-result-2
+cast-result-2 : tie.Need-overflow_cast-result-in-Refused
 cast-result-2 c = record { sfits = small c }
 
-sub_result : tie.Need-overflow-sub-result
+sub_result : tie.Need-overflow_sub-result
 sub_result c = minus_fits c.number.result (small c)
 
-returns : tie.Need-returns
+returns : tie.Need-returns-in-NoPath
 returns c =
-    let called = c.before.before in
-    most_units_call called.before.before.stage-named.ensures called.before.strictness-named.ensures c.enum_told.given.1 refl
-    called.most-units.ensures
+    let called = c.before in
+    most_units_call called.stage_named.ensures called.strictness_named.ensures c.in-NoPath.is refl
+    called.most_units.ensures
 
-returns-2 : tie.Need-returns-2
+returns-2 : tie.Need-returns-in-Units
 returns-2 c =
-    let called = c.before.before.before in
-    most_units_call called.before.before.stage-named.ensures called.before.strictness-named.ensures c.before.units.given.1
-    (to_z_pos w32 (cast-result c).sfits) called.most-units.ensures
+    let called = c.before in
+    most_units_call called.stage_named.ensures called.strictness_named.ensures c.in-Units.is
+    (to_z_pos w32 (cast-result c).sfits) called.most_units.ensures
 
-returns-3 : tie.Need-returns-3
+returns-3 : tie.Need-returns-in-Refused
 returns-3 c =
-    let called = c.before.before.before.before in
+    let called = c.before.before in
     let negative = minus_read c.number.result (small c) ∙ ap (λ (n : ℕ). neg_ℤ (pos n)) c.number.ensures in
-    most_units_call called.before.before.stage-named.ensures called.before.strictness-named.ensures
-    c.before.before.refusal.given.1 negative called.most-units.ensures
+    most_units_call called.stage_named.ensures called.strictness_named.ensures
+    c.in-Refused.is negative called.most_units.ensures
 
-pub tikuwero-most-units-spec : {M : Type 1} → statement M
-tikuwero-most-units-spec =
+pub tikuwero_most_units_spec : {M : Type 1} → statement M
+tikuwero_most_units_spec =
     tie.close
     (tie.spec
-    stage-named-requires
-    strictness-named-requires
-    most-units-requires
+    stage_named-requires
+    strictness_named-requires
+    most_units-requires
     enum_told
-    enum-known-units
+    enum_known-units
     cast-result
-    enum-known-refusal
+    enum_known-refusal
     number-requires
     cast-result-2
     sub_result

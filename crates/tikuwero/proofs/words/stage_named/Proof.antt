@@ -6,11 +6,11 @@ use Rattle.record.specs.declared.read.Which.TheVariants.{Nuclei, Count}
 use Rattle.tikuwero.proofs.words.stage_named.Statement.{statement}
 use Rattle.tikuwero.proofs.words.stage_named.Tie as tie
 
-returns : tie.Need-returns
-returns c = sym (ap (λ (b : Bool). cond b Nuclei Count) (eq-eqb c.before.args.word 0 c.if1.true))
+returns : tie.Need-returns-then-word-eq0
+returns c = sym (ap (λ (b : Bool). cond b Nuclei Count) (eq-eqb c.args.word 0 c.if-word-eq0.true))
 
-returns-2 : tie.Need-returns-2
-returns-2 c = sym (ap (λ (b : Bool). cond b Nuclei Count) (ne_eqb c.before.args.word 0 c.if1.false))
+returns-2 : tie.Need-returns-else-word-eq0
+returns-2 c = sym (ap (λ (b : Bool). cond b Nuclei Count) (ne_eqb c.args.word 0 c.if-word-eq0.false))
 
-pub stage-named-spec : {M : Type 1} → statement M
-stage-named-spec = tie.close (tie.spec returns returns-2)
+pub stage_named_spec : {M : Type 1} → statement M
+stage_named_spec = tie.close (tie.spec returns returns-2)
