@@ -2,7 +2,7 @@
 # Builds the driver, prints the ratios ours/original, for records and then for `rate_s` (exit status 1 if one is above its target; with
 # `print`, 0; with `rates`, those of `rate_s` only), then the instructions of one decode as callgrind counts them, with those of our
 # call for the most units, and those of one call of `rate_s`: two runs of different length, so that starting up cancels.
-# Needs target/staticlib/libtikuwero.a, which `rt staticlib tikuwero` writes.
+# Needs target/staticlib/libtikuwero.a, which `tools/staticlib.sh` writes.
 set -eu
 cd "$(dirname "$0")"
 cargo build --release --quiet

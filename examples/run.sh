@@ -3,7 +3,7 @@
 # taken as C99 and the Rust module in two editions, without a warning, also where none or few of their items are used.
 set -eu
 cd "$(dirname "$0")/.."
-rt staticlib tikuwero
+tools/staticlib.sh
 built=target/examples
 mkdir -p "$built"
 

@@ -75,7 +75,7 @@ fn items(path: &str, starts: &[&str]) -> String {
     starts.iter().map(item).collect()
 }
 
-/// Links our archive, which `rt staticlib tikuwero` writes; `TIKUWERO_LIB` names another folder than the default.
+/// Links our archive, which `tools/staticlib.sh` writes; `TIKUWERO_LIB` names another folder than the default.
 fn link(here: &Path) {
     println!("cargo:rerun-if-env-changed=TIKUWERO_LIB");
     let folder = env::var("TIKUWERO_LIB")
