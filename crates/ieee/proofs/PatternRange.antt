@@ -1,5 +1,5 @@
 -- Range tests on patterns are the IEEE range tests on their values. Assumes nothing.
-use Rattle.std.proofs.Common.{◌≡◌, ℕ, ◌+◌, ◌-◌, ◌*◌, ◌%◌, ◌<◌, ◌≤◌, Bool, true, false, cond, ◌&&◌, ◌||◌, T, eqb, leb, refl, ◌∙◌, subst, inl, inr, lt_of_le_of_lt, mul-pos, arith, le→leb, eqb→eq, leb→le}
+use Rattle.std.proofs.Common.{◌≡◌, ℕ, ◌+◌, ◌*◌, ◌%◌, ◌<◌, ◌≤◌, Bool, true, false, cond, ◌&&◌, ◌||◌, T, eqb, leb, refl, ◌∙◌, subst, inl, inr, lt_of_le_of_lt, mul-pos, arith, le→leb, eqb→eq, leb→le}
 use lib.Arith.{le-zero}
 use lib.Ieee.{Float, nan, inf, fin, Format, low, neg, le, hid, ones, top, of_bits, is_nan}
 use lib.Ieee.Fits.{and_i, and_l, and_r, eq→eqb}

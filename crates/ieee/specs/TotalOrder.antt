@@ -1,6 +1,6 @@
 -- The total order of floats that are no NaN, in which the ranking compares (document 01, "Spans, marks and order":
 -- "Ranking: stable, descending, `total_cmp`"), and the number of a value in it.
-use Rattle.std.specs.Prelude.{◌+◌, ◌-◌, Bool, false, not, ◌&&◌, ◌||◌, Float}
+use Rattle.std.specs.Prelude.{Bool, false, not, ◌&&◌, ◌||◌, Float}
 use Rattle.std.specs.Float.{nan, inf, fin}
 use Rattle.std.specs.Float.Ieee.{lt, eq}
 

@@ -2,7 +2,6 @@
 use Rattle.std.specs.Prelude.{ℕ, ◌+◌, ◌-◌, ◌*◌, cond, not, T, is_nan, nat_lt, to_bits, Float}
 use Rattle.std.specs.Float.{Format}
 use Rattle.std.specs.Float.Ieee.{fits, top}
-use Rattle.ieee.specs.TotalOrder.{negative}
 
 -- what is compared: a value that the format holds, and no NaN
 pub record Comparable (f : Format) (x : Float) : Type 0 where
