@@ -6,6 +6,7 @@ use frames::list::Nearest;
 use frames::stage;
 use limits::common::ABSENT;
 use rate::duration;
+use std::io;
 
 // A default for a rate: within the range, at its ends and just past them, and what is no number or not finite.
 fn default_of(k: u32) -> f64 {
@@ -24,24 +25,37 @@ fn default_of(k: u32) -> f64 {
 }
 
 // 1: default, frames.
-fn rate_case(text: &[u8], at: usize) -> usize {
+fn rate_case(rt: &impl Print, text: &[u8], at: usize) -> io::Result<usize> {
     let default = input::number(text, at);
     let mut frames = [0u32; 80];
     let f = input::list(text, default.next, &mut frames);
     let count = f.len;
-    print::rate(duration::rate_s(&frames[..count], default_of(default.value)));
-    print::end_line();
-    f.next
+    print::rate(
+        rt,
+        duration::rate_s(&frames[..count], default_of(default.value)),
+    )?;
+    print::end_line(rt)?;
+    Ok(f.next)
 }
 
-fn spans(nuclei: &[u32], bounds: &[u32], lo_edge: u32, hi_edge: u32, out: &mut [u32]) {
-    print::spans(spans::spans::tbu_spans(nuclei, bounds, lo_edge, hi_edge, out));
-    print::cells(out);
-    print::end_line();
+fn spans(
+    rt: &impl Print,
+    nuclei: &[u32],
+    bounds: &[u32],
+    lo_edge: u32,
+    hi_edge: u32,
+    out: &mut [u32],
+) -> io::Result<()> {
+    print::spans(
+        rt,
+        spans::spans::tbu_spans(nuclei, bounds, lo_edge, hi_edge, out),
+    )?;
+    print::cells(rt, out)?;
+    print::end_line(rt)
 }
 
 // 2: low edge, high edge, words of the output, nuclei, boundaries.
-fn spans_case(text: &[u8], at: usize) -> usize {
+fn spans_case(rt: &impl Print, text: &[u8], at: usize) -> io::Result<usize> {
     let lo = input::number(text, at);
     let hi = input::number(text, lo.next);
     let mut out = [7777u32; 140];
@@ -54,17 +68,18 @@ fn spans_case(text: &[u8], at: usize) -> usize {
     let b = input::list(text, n.next, &mut bounds);
     let bounds_count = b.len;
     spans(
+        rt,
         &nuclei[..count],
         &bounds[..bounds_count],
         lo.value,
         hi.value,
         &mut out[..room],
-    );
-    b.next
+    )?;
+    Ok(b.next)
 }
 
 // 3: start, end, voice mask, pitch mask.
-fn joins_case(text: &[u8], at: usize) -> usize {
+fn joins_case(rt: &impl Print, text: &[u8], at: usize) -> io::Result<usize> {
     let start = input::number(text, at);
     let end = input::number(text, start.next);
     let mut voice = [0u8; 2100];
@@ -73,14 +88,17 @@ fn joins_case(text: &[u8], at: usize) -> usize {
     let mut pitched = [0u8; 2100];
     let p = input::mask(text, v.next, &mut pitched);
     let pitches = p.len;
-    print::joins(joins::joins(
-        &voice[..voiced],
-        &pitched[..pitches],
-        start.value,
-        end.value,
-    ));
-    print::end_line();
-    p.next
+    print::joins(
+        rt,
+        joins::joins(
+            &voice[..voiced],
+            &pitched[..pitches],
+            start.value,
+            end.value,
+        ),
+    )?;
+    print::end_line(rt)?;
+    Ok(p.next)
 }
 
 // The next nucleus, where `ABSENT` stands for none.
@@ -93,7 +111,7 @@ fn next_of(frame: u32) -> Nearest {
 }
 
 // 4: start, end, next nucleus, pitch mask, vowel speech mask.
-fn tail_case(text: &[u8], at: usize) -> usize {
+fn tail_case(rt: &impl Print, text: &[u8], at: usize) -> io::Result<usize> {
     let start = input::number(text, at);
     let end = input::number(text, start.next);
     let after = input::number(text, end.next);
@@ -103,19 +121,22 @@ fn tail_case(text: &[u8], at: usize) -> usize {
     let mut vowel = [0u8; 2100];
     let v = input::mask(text, p.next, &mut vowel);
     let vowels = v.len;
-    print::tail(evidence::evidence::creaky_tail(
-        start.value,
-        end.value,
-        next_of(after.value),
-        &pitched[..pitches],
-        &vowel[..vowels],
-    ));
-    print::end_line();
-    v.next
+    print::tail(
+        rt,
+        evidence::evidence::creaky_tail(
+            start.value,
+            end.value,
+            next_of(after.value),
+            &pitched[..pitches],
+            &vowel[..vowels],
+        ),
+    )?;
+    print::end_line(rt)?;
+    Ok(v.next)
 }
 
 // 5: stage word, boundaries of the nuclei stage, boundaries of the added stage.
-fn stage_case(text: &[u8], at: usize) -> usize {
+fn stage_case(rt: &impl Print, text: &[u8], at: usize) -> io::Result<usize> {
     let word = input::number(text, at);
     let mut nuclei = [0u32; 80];
     let n = input::list(text, word.next, &mut nuclei);
@@ -123,30 +144,34 @@ fn stage_case(text: &[u8], at: usize) -> usize {
     let mut added = [0u32; 80];
     let a = input::list(text, n.next, &mut added);
     let added_count = a.len;
-    print::stage(stage::stage_boundaries(&nuclei[..count], &added[..added_count], word.value));
-    a.next
+    print::stage(
+        rt,
+        stage::stage_boundaries(&nuclei[..count], &added[..added_count], word.value),
+    )?;
+    Ok(a.next)
 }
 
-fn run(text: &[u8], kind: u32, at: usize) -> usize {
+fn run(rt: &impl Print, text: &[u8], kind: u32, at: usize) -> io::Result<usize> {
     match kind {
-        1 => rate_case(text, at),
-        2 => spans_case(text, at),
-        3 => joins_case(text, at),
-        4 => tail_case(text, at),
-        _ => stage_case(text, at),
+        1 => rate_case(rt, text, at),
+        2 => spans_case(rt, text, at),
+        3 => joins_case(rt, text, at),
+        4 => tail_case(rt, text, at),
+        _ => stage_case(rt, text, at),
     }
 }
 
 // Runs case after case, up to the end of the text.
-pub(crate) fn run_all(text: &[u8]) {
+pub(crate) fn run_all(rt: &impl Print, text: &[u8]) -> io::Result<()> {
     let mut at = 0;
     let mut left: u32 = 100000;
     while 0 < left {
         let kind = input::number(text, at);
         if kind.value == 0 {
-            return;
+            return Ok(());
         }
-        at = run(text, kind.value, kind.next);
+        at = run(rt, text, kind.value, kind.next)?;
         left -= 1;
     }
+    Ok(())
 }

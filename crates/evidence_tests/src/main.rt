@@ -10,8 +10,14 @@ mod cases;
 mod input;
 mod print;
 
-fn main() {
-    let mut buffer = io::large_buffer();
-    let n = io::read_full(0, &mut buffer);
-    cases::run_all(&buffer[..n]);
+use std::io;
+use whole_input::read_full;
+
+// More bytes than the cases have.
+const MOST_BYTES: usize = 65536;
+
+fn main(rt: HostRuntime) -> io::Result<()> {
+    let mut buffer = [0u8; MOST_BYTES];
+    let n = read_full(&mut rt.reader(), &mut buffer)?;
+    cases::run_all(&rt, &buffer[..n])
 }

@@ -4,92 +4,84 @@ use evidence::evidence::TailAnswer;
 use evidence::joins::JoinsAnswer;
 use rate::duration::RateAnswer;
 use spans::spans::SpansAnswer;
+use std::io;
 
-fn refused(number: u64) {
-    io::write_all(1, b"refused ");
-    io::print_decimal(1, number);
+fn refused(rt: &impl Print, number: u32) -> io::Result<()> {
+    print!(rt; "refused {number}")
 }
 
-fn bit(b: bool) {
-    io::print_decimal(1, if b { 1 } else { 0 });
+fn bit(b: bool) -> u8 {
+    if b { 1 } else { 0 }
 }
 
-pub(crate) fn end_line() {
-    io::write_all(1, b"\n");
+pub(crate) fn end_line(rt: &impl Print) -> io::Result<()> {
+    println!(rt)
 }
 
-fn wide(n: u32) -> u64 {
-    n as u64
-}
-
-pub(crate) fn cells(cells: &[u32]) {
-    io::write_all(1, b":");
-    let mut i = 0;
-    while i < cells.len() {
-        io::write_all(1, b" ");
-        io::print_decimal(1, wide(cells[i]));
-        i += 1;
+pub(crate) fn cells(rt: &impl Print, cells: &[u32]) -> io::Result<()> {
+    print!(rt; ":")?;
+    for cell in cells {
+        print!(rt; " {cell}")?;
     }
+    Ok(())
 }
 
 // The bits of a rate. No rate is a NaN, which alone has no pattern of its own.
-fn bits(r: f64) {
+fn bits(rt: &impl Print, r: f64) -> io::Result<()> {
     if r == r {
-        io::print_hex(1, f64::to_bits(r), 16);
+        let pattern = f64::to_bits(r);
+        print!(rt; "{pattern:016x}")?;
     }
+    Ok(())
 }
 
-pub(crate) fn rate(answer: RateAnswer) {
+pub(crate) fn rate(rt: &impl Print, answer: RateAnswer) -> io::Result<()> {
     match answer {
         RateAnswer::Seconds(r) => {
-            io::write_all(1, b"rate ");
-            bits(r);
+            print!(rt; "rate ")?;
+            bits(rt, r)
         }
-        RateAnswer::Size => refused(3),
-        RateAnswer::Track => refused(5),
-        RateAnswer::Cost => refused(6),
+        RateAnswer::Size => refused(rt, 3),
+        RateAnswer::Track => refused(rt, 5),
+        RateAnswer::Cost => refused(rt, 6),
     }
 }
 
-pub(crate) fn spans(answer: SpansAnswer) {
+pub(crate) fn spans(rt: &impl Print, answer: SpansAnswer) -> io::Result<()> {
     match answer {
-        SpansAnswer::Spans(n) => {
-            io::write_all(1, b"spans ");
-            io::print_decimal(1, n as u64);
-        }
-        SpansAnswer::Size => refused(3),
-        SpansAnswer::Track => refused(5),
-        SpansAnswer::Desk => refused(11),
+        SpansAnswer::Spans(n) => print!(rt; "spans {n}"),
+        SpansAnswer::Size => refused(rt, 3),
+        SpansAnswer::Track => refused(rt, 5),
+        SpansAnswer::Desk => refused(rt, 11),
     }
 }
 
-pub(crate) fn joins(answer: JoinsAnswer) {
+pub(crate) fn joins(rt: &impl Print, answer: JoinsAnswer) -> io::Result<()> {
     match answer {
         JoinsAnswer::Joined { start, end } => {
-            io::write_all(1, b"joins ");
-            bit(start);
-            io::write_all(1, b" ");
-            bit(end);
+            let start = bit(start);
+            let end = bit(end);
+            print!(rt; "joins {start} {end}")
         }
-        JoinsAnswer::Size => refused(3),
-        JoinsAnswer::Track => refused(5),
+        JoinsAnswer::Size => refused(rt, 3),
+        JoinsAnswer::Track => refused(rt, 5),
     }
 }
 
-pub(crate) fn tail(answer: TailAnswer) {
+pub(crate) fn tail(rt: &impl Print, answer: TailAnswer) -> io::Result<()> {
     match answer {
         TailAnswer::Creaky(yes) => {
-            io::write_all(1, b"creaky ");
-            bit(yes);
+            let yes = bit(yes);
+            print!(rt; "creaky {yes}")
         }
-        TailAnswer::Size => refused(3),
-        TailAnswer::Track => refused(5),
+        TailAnswer::Size => refused(rt, 3),
+        TailAnswer::Track => refused(rt, 5),
     }
 }
 
-pub(crate) fn stage(boundaries: &[u32]) {
-    io::write_all(1, b"stage ");
-    io::print_decimal(1, boundaries.len() as u64);
-    cells(boundaries);
-    end_line();
+pub(crate) fn stage(rt: &impl Print, boundaries: &[u32]) -> io::Result<()> {
+    let count = boundaries.len();
+    print!(rt; "stage {count}")?;
+    cells(rt, boundaries)?;
+    end_line(rt)
 }

@@ -7,7 +7,7 @@ mod vectors;
 ghost use Rattle.std.specs.Prelude.{not, ◌<◌, ◌≤◌, T};
 ghost use Rattle.std.specs.Float.Ieee.{is_nan};
 
-use libc::STDOUT_FILENO;
+use std::io;
 
 #[derive(Clone, Copy)]
 enum What {
@@ -92,17 +92,15 @@ fn count(what: What, list: &[u64], step: usize) -> Tally
     Tally { right, of }
 }
 
-fn report(name: &[u8], tally: Tally) {
-    io::write_all(STDOUT_FILENO, name);
-    io::print_decimal(STDOUT_FILENO, tally.right);
-    io::write_all(STDOUT_FILENO, b" of ");
-    io::print_decimal(STDOUT_FILENO, tally.of);
-    io::write_all(STDOUT_FILENO, b"\n");
+fn report(rt: &impl Print, name: &str, tally: Tally) -> io::Result<()> {
+    let right = tally.right;
+    let of = tally.of;
+    println!(rt; "{name} {right} of {of}")
 }
 
-fn main() {
-    report(b"narrow ", count(What::Narrow, &vectors::NARROW, 2));
-    report(b"clamp_log ", count(What::Clamp, &vectors::CLAMP, 2));
-    report(b"widen ", count(What::Widen, &vectors::WIDEN, 2));
-    report(b"order ", count(What::Order, &vectors::ORDER, 1));
+fn main(rt: HostRuntime) -> io::Result<()> {
+    report(&rt, "narrow", count(What::Narrow, &vectors::NARROW, 2))?;
+    report(&rt, "clamp_log", count(What::Clamp, &vectors::CLAMP, 2))?;
+    report(&rt, "widen", count(What::Widen, &vectors::WIDEN, 2))?;
+    report(&rt, "order", count(What::Order, &vectors::ORDER, 1))
 }

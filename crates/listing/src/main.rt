@@ -2,15 +2,15 @@
 
 #![tactic(auto)]
 
-use io::read_full;
-use libc::STDIN_FILENO;
 use printing::print_listing;
+use std::io;
+use whole_input::read_full;
 
 // A byte more than the longest record has: enough to refuse an input that is longer still, by 1, as all of it would be.
 const MOST_BYTES: usize = 65537;
 
-fn main() {
+fn main(rt: HostRuntime) -> io::Result<()> {
     let mut record = [0u8; MOST_BYTES];
-    let read = read_full(STDIN_FILENO, &mut record);
-    print_listing(&record[..read]);
+    let read = read_full(&mut rt.reader(), &mut record)?;
+    print_listing(&rt, &record[..read])
 }

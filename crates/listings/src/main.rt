@@ -5,9 +5,12 @@
 
 ghost use Rattle.std.specs.Prelude.{◌≤◌, ◌<◌, length};
 
-use io::{large_buffer, read_full};
-use libc::STDIN_FILENO;
 use printing::print_listing;
+use std::io;
+use whole_input::read_full;
+
+// More bytes than the input has.
+const MOST_INPUT: usize = 65536;
 
 fn byte(input: &[u8], at: usize) -> usize
     ensures { result < 256 }
@@ -20,31 +23,32 @@ fn byte(input: &[u8], at: usize) -> usize
 }
 
 // The record of so many bytes at a place, or what is left of the input.
-fn print_at(input: &[u8], at: usize, long: usize) {
+fn print_at(rt: &impl Print, input: &[u8], at: usize, long: usize) -> io::Result<()> {
     if at > input.len() {
-        return;
+        return Ok(());
     }
     if long < input.len() - at {
         let end = at + long;
-        print_listing(&input[at..end]);
+        print_listing(rt, &input[at..end])
     } else {
-        print_listing(&input[at..]);
+        print_listing(rt, &input[at..])
     }
 }
 
-fn print_all(input: &[u8])
+fn print_all(rt: &impl Print, input: &[u8]) -> io::Result<()>
     requires { length input.now ≤ 65536 }
 {
     let mut at = 0;
     while at < input.len() {
         let long = byte(input, at) + byte(input, at + 1) * 256;
-        print_at(input, at + 2, long);
+        print_at(rt, input, at + 2, long)?;
         at = at + 2 + long;
     }
+    Ok(())
 }
 
-fn main() {
-    let mut input = large_buffer();
-    let read = read_full(STDIN_FILENO, &mut input);
-    print_all(&input[..read]);
+fn main(rt: HostRuntime) -> io::Result<()> {
+    let mut input = [0u8; MOST_INPUT];
+    let read = read_full(&mut rt.reader(), &mut input)?;
+    print_all(&rt, &input[..read])
 }

@@ -11,10 +11,13 @@
 ghost use Rattle.std.specs.Prelude.{◌+◌, ◌≤◌, ◌<◌, length};
 
 use checks::{check, check_areas};
-use io::{large_buffer, print_decimal, read_full, write_all};
-use libc::{STDIN_FILENO, STDOUT_FILENO};
 use record::bytes::u32_at;
 use record::refusal::Checked;
+use std::io;
+use whole_input::read_full;
+
+// More bytes than the input has.
+const MOST_INPUT: usize = 65536;
 
 // The longest record of a case.
 const MOST: usize = 65540;
@@ -79,24 +82,30 @@ fn number(checked: Checked) -> u64 {
     }
 }
 
-fn report(record: &[u8], best: usize, back: usize, out: usize) {
-    print_decimal(STDOUT_FILENO, number(check(record)));
-    write_all(STDOUT_FILENO, b" ");
-    print_decimal(STDOUT_FILENO, number(check_areas(record, best, back, out)));
-    write_all(STDOUT_FILENO, b"\n");
+fn report(rt: &impl Print, record: &[u8], best: usize, back: usize, out: usize) -> io::Result<()> {
+    let without = number(check(record));
+    let with = number(check_areas(record, best, back, out));
+    println!(rt; "{without} {with}")
 }
 
-fn run(input: &[u8], at: usize, changes: usize, record: &mut [u8])
+fn run(
+    rt: &impl Print,
+    input: &[u8],
+    at: usize,
+    changes: usize,
+    record: &mut [u8],
+) -> io::Result<()>
     requires { (at < 65536) × (changes < 4294967296) }
 {
     lay(input, word(input, at + 4), word(input, at + 8), record);
     change(input, at + 28, changes, record);
     report(
+        rt,
         record,
         word(input, at + 12),
         word(input, at + 16),
         word(input, at + 20),
-    );
+    )
 }
 
 fn least(a: usize, b: usize) -> usize
@@ -106,21 +115,22 @@ fn least(a: usize, b: usize) -> usize
 }
 
 // The first word says where the cases start.
-fn run_all(input: &[u8], space: &mut [u8])
+fn run_all(rt: &impl Print, input: &[u8], space: &mut [u8]) -> io::Result<()>
     requires { length input.now ≤ 65536 }
 {
     let mut at = word(input, 0);
     while at < input.len() {
         let long = least(word(input, at), space.len());
         let changes = word(input, at + 24);
-        run(input, at, changes, &mut space[..long]);
+        run(rt, input, at, changes, &mut space[..long])?;
         at = at + 28 + 8 * changes;
     }
+    Ok(())
 }
 
-fn main() {
-    let mut input = large_buffer();
-    let read = read_full(STDIN_FILENO, &mut input);
+fn main(rt: HostRuntime) -> io::Result<()> {
+    let mut input = [0u8; MOST_INPUT];
+    let read = read_full(&mut rt.reader(), &mut input)?;
     let mut space = [0u8; MOST];
-    run_all(&input[..read], &mut space);
+    run_all(&rt, &input[..read], &mut space)
 }

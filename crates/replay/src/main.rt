@@ -15,11 +15,12 @@ mod input;
 mod marks;
 mod pieces;
 
-ghost use Rattle.std.specs.Prelude.{◌≡◌, ◌≤◌, length};
+ghost use Rattle.std.specs.Prelude.{◌≡◌, ◌≤◌, length, IfOk};
 
 use crate::input::{Answer, word};
-use io::{print_decimal, read_full, write_all};
-use libc::{STDIN_FILENO, STDOUT_FILENO};
+use std::io;
+use std::io::Read;
+use whole_input::read_full;
 
 // More bytes than any case of the sample has, and than any record.
 const MOST_BODY: usize = 70000;
@@ -55,21 +56,21 @@ fn no_case() -> Case
 }
 
 // Reads the next case. An input that ends within a case ends before it.
-fn next_case(body: &mut [u8]) -> Case
-    ensures { result.len ≤ length body.new }
+fn next_case<R: Read>(stored: &mut R, body: &mut [u8]) -> io::Result<Case>
+    ensures { IfOk result (λ case. case.len ≤ length body.new) }
 {
     let mut head = [0u8; 20];
-    if read_full(STDIN_FILENO, &mut head) < 20 {
-        return no_case();
+    if read_full(stored, &mut head)? < 20 {
+        return Ok(no_case());
     }
     let len = word(&head, 4) as usize;
     if len > body.len() {
-        return no_case();
+        return Ok(no_case());
     }
-    if read_full(STDIN_FILENO, &mut body[..len]) < len {
-        return no_case();
+    if read_full(stored, &mut body[..len])? < len {
+        return Ok(no_case());
     }
-    Case {
+    Ok(Case {
         entry: word(&head, 0),
         len,
         answer: Answer {
@@ -77,7 +78,7 @@ fn next_case(body: &mut [u8]) -> Case
             returned: word(&head, 12),
             words: word(&head, 16),
         },
-    }
+    })
 }
 
 fn replay(entry: u32, body: &[u8], answer: Answer, record: &mut [u8]) -> bool {
@@ -114,55 +115,59 @@ fn tally(counts: &mut [u32], entry: u32, refused: bool, agrees: bool) {
 }
 
 // Prints the number of a case that differs, unless enough are printed, and answers how many are.
-fn differs(number: u32, printed: u32) -> u32 {
+fn differs(rt: &impl Print, number: u32, printed: u32) -> io::Result<u32> {
     if printed >= MOST_PRINTED {
-        return printed;
+        return Ok(printed);
     }
-    write_all(STDOUT_FILENO, b"case ");
-    print_decimal(STDOUT_FILENO, number as u64);
-    write_all(STDOUT_FILENO, b" differs\n");
-    printed + 1
+    println!(rt; "case {number} differs")?;
+    Ok(printed + 1)
 }
 
 // Replays case after case, up to the end of the input.
-fn replay_all(body: &mut [u8], record: &mut [u8], counts: &mut [u32]) {
+fn replay_all(
+    rt: &(impl Input + Print),
+    body: &mut [u8],
+    record: &mut [u8],
+    counts: &mut [u32],
+) -> io::Result<()> {
+    let mut stored = rt.reader();
     let mut printed = 0;
     let mut number = 0;
     while number < MOST_CASES {
-        let case = next_case(body);
+        let case = next_case(&mut stored, body)?;
         let len = case.len;
         if case.entry == 0 {
-            return;
+            return Ok(());
         }
         let agrees = replay(case.entry, &body[..len], case.answer, record);
         tally(counts, case.entry, !case.answer.accepted(), agrees);
         number += 1;
         if !agrees {
-            printed = differs(number, printed);
+            printed = differs(rt, number, printed)?;
         }
     }
+    Ok(())
 }
 
-fn print_line(name: &[u8], replayed: u32, refused: u32, agree: u32) {
-    write_all(STDOUT_FILENO, name);
-    write_all(STDOUT_FILENO, b": ");
-    print_decimal(STDOUT_FILENO, replayed as u64);
-    write_all(STDOUT_FILENO, b" replayed, ");
-    print_decimal(STDOUT_FILENO, refused as u64);
-    write_all(STDOUT_FILENO, b" of them refused, ");
-    print_decimal(STDOUT_FILENO, agree as u64);
-    write_all(STDOUT_FILENO, b" agree\n");
+fn print_line(
+    rt: &impl Print,
+    name: &str,
+    replayed: u32,
+    refused: u32,
+    agree: u32,
+) -> io::Result<()> {
+    println!(rt; "{name}: {replayed} replayed, {refused} of them refused, {agree} agree")
 }
 
-fn main() {
+fn main(rt: HostRuntime) -> io::Result<()> {
     let mut body = [0u8; MOST_BODY];
     let mut record = [0u8; MOST_RECORD];
     let mut counts = [0u32; 21];
-    replay_all(&mut body, &mut record, &mut counts);
-    print_line(b"decode", counts[3], counts[4], counts[5]);
-    print_line(b"rate_s", counts[6], counts[7], counts[8]);
-    print_line(b"tbu_spans", counts[9], counts[10], counts[11]);
-    print_line(b"joins", counts[12], counts[13], counts[14]);
-    print_line(b"creaky_tail", counts[15], counts[16], counts[17]);
-    print_line(b"most_units", counts[18], counts[19], counts[20]);
+    replay_all(&rt, &mut body, &mut record, &mut counts)?;
+    print_line(&rt, "decode", counts[3], counts[4], counts[5])?;
+    print_line(&rt, "rate_s", counts[6], counts[7], counts[8])?;
+    print_line(&rt, "tbu_spans", counts[9], counts[10], counts[11])?;
+    print_line(&rt, "joins", counts[12], counts[13], counts[14])?;
+    print_line(&rt, "creaky_tail", counts[15], counts[16], counts[17])?;
+    print_line(&rt, "most_units", counts[18], counts[19], counts[20])
 }

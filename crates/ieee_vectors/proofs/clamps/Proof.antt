@@ -4,14 +4,14 @@ use Rattle.ieee.proofs.Value.{finite_number}
 use Rattle.ieee_vectors.proofs.clamps.Statement.{statement}
 use Rattle.ieee_vectors.proofs.clamps.Tie as tie
 
-clamp-log-requires : tie.Need-clamp-log-requires
-clamp-log-requires c κs = search rules
+clamp_log-requires : tie.Need-clamp_log-requires
+clamp_log-requires c κs = search rules
 
-float-to-bits-result : tie.Need-float-to-bits-result
-float-to-bits-result c = finite_number _ c.clamp-log.ensures.within.real.is_finite
+float_to-bits-result : tie.Need-float_to_bits-result
+float_to-bits-result c = finite_number _ c.clamp_log.ensures.within.real.is_finite
 
 returns : tie.Need-returns
 returns c = search rules
 
-pub clamps-spec : {M : Type 1} → statement M
-clamps-spec = tie.close (tie.spec clamp-log-requires float-to-bits-result returns)
+pub clamps_spec : {M : Type 1} → statement M
+clamps_spec = tie.close (tie.spec clamp_log-requires float_to-bits-result returns)

@@ -5,14 +5,14 @@ use Rattle.ieee.proofs.Pattern.{number_bits}
 use Rattle.ieee_vectors.proofs.f64_of.Statement.{statement}
 use Rattle.ieee_vectors.proofs.f64_of.Tie as tie
 
-float-from-bits-result : tie.Need-float-from-bits-result
-float-from-bits-result c = number_bits binary64 c.before.args.bits c.if1.false
+float_from-bits-result : tie.Need-float_from_bits-result
+float_from-bits-result c = number_bits binary64 c.args.bits c.if-bits-gt9218868437227405312.false
 
-returns : tie.Need-returns
+returns : tie.Need-returns-then-bits-gt9218868437227405312
 returns c = search rules
 
-returns-2 : tie.Need-returns-2
+returns-2 : tie.Need-returns-else-bits-gt9218868437227405312
 returns-2 c = search rules
 
-pub f64-of-spec : {M : Type 1} → statement M
-f64-of-spec = tie.close (tie.spec float-from-bits-result returns returns-2)
+pub f64_of_spec : {M : Type 1} → statement M
+f64_of_spec = tie.close (tie.spec float_from-bits-result returns returns-2)

@@ -7,18 +7,18 @@ use Rattle.ieee.proofs.NarrowClamp.{nan_test}
 use Rattle.ieee_vectors.proofs.narrows.Statement.{statement}
 use Rattle.ieee_vectors.proofs.narrows.Tie as tie
 
-returns : tie.Need-returns
+returns : tie.Need-returns-then-v
 returns c = search rules
 
 -- only a NaN differs from itself
 narrow-requires : tie.Need-narrow-requires
-narrow-requires c κs = subst (λ (b : Bool). T (not b)) (sym (nan_test c.before.args.v ∙ c.if1.false)) tt
+narrow-requires c κs = subst (λ (b : Bool). T (not b)) (sym (nan_test c.args.v ∙ c.if-v.false)) tt
 
-float-to-bits-result : tie.Need-float-to-bits-result
-float-to-bits-result c = search rules
+float_to-bits-result : tie.Need-float_to_bits-result
+float_to-bits-result c = search rules
 
-returns-2 : tie.Need-returns-2
+returns-2 : tie.Need-returns
 returns-2 c = search rules
 
-pub narrows-spec : {M : Type 1} → statement M
-narrows-spec = tie.close (tie.spec returns narrow-requires float-to-bits-result returns-2)
+pub narrows_spec : {M : Type 1} → statement M
+narrows_spec = tie.close (tie.spec returns narrow-requires float_to-bits-result returns-2)

@@ -10,11 +10,11 @@ use Rattle.ieee_vectors.proofs.widens.Tie as tie
 widen-requires : tie.Need-widen-requires
 widen-requires c κs = search rules
 
-float-to-bits-result : tie.Need-float-to-bits-result
-float-to-bits-result c = subst (λ (x : Float). T (not (is_nan x))) (sym c.widen.ensures) c.before.requires
+float_to-bits-result : tie.Need-float_to_bits-result
+float_to-bits-result c = subst (λ (x : Float). T (not (is_nan x))) (sym c.widen.ensures) c.requires
 
 returns : tie.Need-returns
 returns c = search rules
 
-pub widens-spec : {M : Type 1} → statement M
-widens-spec = tie.close (tie.spec widen-requires float-to-bits-result returns)
+pub widens_spec : {M : Type 1} → statement M
+widens_spec = tie.close (tie.spec widen-requires float_to-bits-result returns)

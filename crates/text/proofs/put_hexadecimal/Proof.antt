@@ -10,21 +10,21 @@ use Rattle.text.proofs.Digits.{eight_digits}
 use Rattle.text.proofs.put_hexadecimal.Statement.{statement}
 use Rattle.text.proofs.put_hexadecimal.Tie as tie
 
-hex-requires : tie.Need-hex-requires
+hex-requires : tie.Need-hex-width-requires
 hex-requires c κs = search rules
 
-array-share-prefix-digits : tie.Need-array-share-prefix-digits
-array-share-prefix-digits c = search rules
+array_share-prefix-digits : tie.Need-slice_bounds-digits-end
+array_share-prefix-digits c = search rules
 
-slice-aggregate-put : tie.Need-slice-aggregate-put
-slice-aggregate-put c = search rules
+slice_aggregate-put : tie.Need-slice_bounds-put-end
+slice_aggregate-put c = search rules
 
 put-requires : tie.Need-put-requires
 put-requires c κs =
     let written = c.before.before in
-    omega (arith, eight_digits written.before.before.before.ranges.n.fits written.hex.ensures.1.0)
+    omega (arith, eight_digits written.ranges.n.fits written.hex-width.ensures.1.0)
 
-same_length : tie.Need-same-length
+same_length : tie.Need-shape_of-out
 same_length c = search rules
 
 returns : tie.Need-returns
@@ -32,17 +32,17 @@ unfolding hexadecimal
 returns c =
     let call = c.before.before.before.before.before in
     let start = call.before.before.before in
-    let eight = eight_digits start.ranges.n.fits call.hex.ensures.1.0 in
-    let same = call.hex.ensures.1.1 ∙ ap (λ (k : ℕ). last_digits 16 k start.args.n) eight in
-    renamed same (omega arith) c.before.before.put.ensures
+    let eight = eight_digits start.ranges.n.fits call.hex-width.ensures.1.0 in
+    let same = call.hex-width.ensures.1.1.0 ∙ ap (λ (k : ℕ). last_digits 16 k start.args.n) eight in
+    renamed same (omega arith) c.put.ensures
 
-pub put-hexadecimal-spec : {M : Type 1} → statement M
-put-hexadecimal-spec =
+pub put_hexadecimal_spec : {M : Type 1} → statement M
+put_hexadecimal_spec =
     tie.close
     (tie.spec
     hex-requires
-    array-share-prefix-digits
-    slice-aggregate-put
+    array_share-prefix-digits
+    slice_aggregate-put
     put-requires
     same_length
     returns)

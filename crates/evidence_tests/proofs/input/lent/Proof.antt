@@ -4,14 +4,14 @@ use borrow.Author.Rules.{rules}
 use Rattle.evidence_tests.proofs.input.lent.Statement.{statement}
 use Rattle.evidence_tests.proofs.input.lent.Tie as tie
 
-number-requires : tie.Need-number-requires
+number-requires : tie.Need-number-count-requires
 number-requires c κs = search rules
 
-at-most-requires : tie.Need-at-most-requires
-at-most-requires c κs = search rules
+at_most-requires : tie.Need-at_most-requires
+at_most-requires c κs = search rules
 
 returns : tie.Need-returns
 returns c = counts _ _ c.at_most.ensures
 
 pub lent_spec : {M : Type 1} → statement M
-lent_spec = tie.close (tie.spec number-requires at-most-requires returns)
+lent_spec = tie.close (tie.spec number-requires at_most-requires returns)

@@ -12,32 +12,32 @@ use Rattle.printing.proofs.Turns.{part_from, words_left, entries_left, entries_a
 use Rattle.printing.proofs.lines.put_entries.Statement.{statement}
 use Rattle.printing.proofs.lines.put_entries.Tie as tie
 
-abbrev invariant-loop : tie.invariant-loop
+abbrev invariant-loop : tie.invariant-loop-i
 invariant-loop out₀ at words most count size₀ next₀ i₀ out next i =
     (i ≤ count)
     × (next ≤ at + entry_bytes most_units * i)
     × AllWhole most (count - i) (words_left most words i)
     × Putting out₀ at (all_lines_in (entry_words most) count words) out next (entries_left most words count i)
 
-abbrev decreases-loop : tie.decreases-loop
+abbrev decreases-loop : tie.decreases-loop-i
 decreases-loop out₀ at words most count size₀ next₀ i₀ out next i = count - i
 
 -- the next entry is there
-inside : (c : tie.In-loop invariant-loop decreases-loop)
-    → c.before.loop.i * entry_words c.before.before.before.before.args.most + entry_words
-    c.before.before.before.before.args.most ≤ length c.before.before.before.before.args.words.now
+inside : (c : tie.In-loop-i invariant-loop decreases-loop)
+    → c.loop-i.i * entry_words c.args.most + entry_words
+    c.args.most ≤ length c.args.words.now
 inside c =
-    let last = c.before.loop in
-    let args = c.before.before.before.before.args in
-    whole_within args.most args.words.now args.count last.i c.loop-test.true last.invariant.2
+    let last = c.loop-i in
+    let args = c.args in
+    whole_within args.most args.words.now args.count last.i c.loop-i-test.true last.invariant.2
 
-mul-size : tie.Need-overflow-mul-size invariant-loop decreases-loop
-mul-size c = omega (arith, c.before.before.requires.0.0)
+mul-size : tie.Need-overflow_mul-size invariant-loop decreases-loop
+mul-size c = omega (arith, c.requires.0.0)
 
-add-size : tie.Need-overflow-add-size invariant-loop decreases-loop
-add-size c = omega (arith, c.before.before.requires.0.0)
+add-size : tie.Need-overflow_add-size invariant-loop decreases-loop
+add-size c = omega (arith, c.requires.0.0)
 
-loop-holds : tie.Need-loop-init invariant-loop decreases-loop
+loop-holds : tie.Need-loop-i-init invariant-loop decreases-loop
 loop-holds c =
     let start = c.before.before in
     let words = start.args.words.now in
@@ -45,41 +45,41 @@ loop-holds c =
     let most = start.args.most in
     (omega arith, omega arith, whole_all most words count start.requires.1, begun (entries_all most words count))
 
-mul-from : tie.Need-overflow-mul-from invariant-loop decreases-loop
+mul-from : tie.Need-overflow_mul-from invariant-loop decreases-loop
 mul-from c = omega (arith, inside c)
 
-mul-put-entry : tie.Need-overflow-mul-put-entry invariant-loop decreases-loop
-mul-put-entry c = omega (arith, inside c.before)
+mul-put_entry : tie.Need-offset_bounds-words-from invariant-loop decreases-loop
+mul-put_entry c = omega (arith, inside c.before)
 
-sub-put-entry : tie.Need-overflow-sub-put-entry invariant-loop decreases-loop
-sub-put-entry c = omega (arith, inside c.before)
+sub-put_entry : tie.Need-slice_bounds-put_entry-count invariant-loop decreases-loop
+sub-put_entry c = omega (arith, inside c.before)
 
-part-put-entry-start : tie.Need-slice-bounds-put-entry-start invariant-loop decreases-loop
-part-put-entry-start c = omega (arith, inside c.before)
+part-put_entry-start : tie.Need-slice_bounds-put_entry-start invariant-loop decreases-loop
+part-put_entry-start c = omega (arith, inside c.before)
 
-part-put-entry-end : tie.Need-slice-bounds-put-entry-end invariant-loop decreases-loop
-part-put-entry-end c = omega arith
+part-put_entry-end : tie.Need-slice_bounds-put_entry-end invariant-loop decreases-loop
+part-put_entry-end c = omega arith
 
-put-entry-requires : tie.Need-put-entry-requires invariant-loop decreases-loop
-put-entry-requires c κs =
-    let last = c.before.before.before.loop in
-    let args = c.before.before.before.before.before.before.args in
-    let first = whole_first args.most args.words.now args.count last.i c.before.before.loop-test.true last.invariant.2 in
+put_entry-requires : tie.Need-put_entry-next-requires invariant-loop decreases-loop
+put_entry-requires c κs =
+    let last = c.loop-i in
+    let args = c.args in
+    let first = whole_first args.most args.words.now args.count last.i c.loop-i-test.true last.invariant.2 in
     let whole = subst (Whole args.most) (sym (part_from (last.i * entry_words args.most) args.words.now)) first in
-    let few = c.before.before.before.before.before.before.requires.0.0 in
+    let few = c.requires.0.0 in
     (omega (arith, whole.few, few), omega (arith, whole.few, whole.there))
 
-add-i : tie.Need-overflow-add-i invariant-loop decreases-loop
+add-i : tie.Need-overflow_add-i invariant-loop decreases-loop
 add-i c = omega arith
 
-loop-less : tie.Need-loop-smaller invariant-loop decreases-loop
+loop-less : tie.Need-loop-i-smaller invariant-loop decreases-loop
 loop-less c = omega arith
 
-loop-again : tie.Need-loop-preserved invariant-loop decreases-loop
+loop-again : tie.Need-loop-i-preserved invariant-loop decreases-loop
 loop-again c =
-    let lines = c.before.before.put-entry.ensures in
-    let taken = c.before.before.before.before.before.loop-test.true in
-    let last = c.before.before.before.before.before.before.loop in
+    let lines = c.put_entry-next.ensures in
+    let taken = c.loop-i-test.true in
+    let last = c.loop-i in
     let start = c.before.before.before.before.before.before.before.before.before in
     let count = start.args.count in
     let words = start.args.words.now in
@@ -94,17 +94,17 @@ loop-again c =
           (renamed (ap lines_in part) (omega (arith, lines.short, units, first.few, start.requires.0.0)) lines),
     )
 
-same_length : tie.Need-same-length invariant-loop decreases-loop
-same_length c = c.before.loop.invariant.3.long
+same_length : tie.Need-shape_of-out invariant-loop decreases-loop
+same_length c = c.loop-i.invariant.3.long
 
 returns : tie.Need-returns invariant-loop decreases-loop
 returns c =
-    let last = c.before.loop in
-    let args = c.before.before.before.before.args in
-    done last.invariant.3 (entries_end args.most args.words.now args.count last.i c.loop-test.false) (omega arith)
+    let last = c.loop-i in
+    let args = c.args in
+    done last.invariant.3 (entries_end args.most args.words.now args.count last.i c.loop-i-test.false) (omega arith)
 
-pub put-entries-spec : {M : Type 1} → statement M
-put-entries-spec =
+pub put_entries_spec : {M : Type 1} → statement M
+put_entries_spec =
     tie.close
     (tie.spec
     invariant-loop
@@ -113,11 +113,11 @@ put-entries-spec =
     add-size
     loop-holds
     mul-from
-    mul-put-entry
-    sub-put-entry
-    part-put-entry-start
-    part-put-entry-end
-    put-entry-requires
+    mul-put_entry
+    sub-put_entry
+    part-put_entry-start
+    part-put_entry-end
+    put_entry-requires
     add-i
     loop-less
     loop-again

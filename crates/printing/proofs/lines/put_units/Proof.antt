@@ -9,75 +9,75 @@ use Rattle.printing.proofs.Turns.{units_left, units_all, units_turn, units_end}
 use Rattle.printing.proofs.lines.put_units.Statement.{statement}
 use Rattle.printing.proofs.lines.put_units.Tie as tie
 
-abbrev invariant-loop : tie.invariant-loop
+abbrev invariant-loop : tie.invariant-loop-i
 invariant-loop out₀ at words count next₀ i₀ out next i =
     (i ≤ count)
     × (next ≤ at + unit_line_bytes * i)
     × Putting out₀ at (unit_lines (units_in count words)) out next (units_left words count i)
 
-abbrev decreases-loop : tie.decreases-loop
+abbrev decreases-loop : tie.decreases-loop-i
 decreases-loop out₀ at words count next₀ i₀ out next i = count - i
 
-loop-holds : tie.Need-loop-init invariant-loop decreases-loop
+loop-holds : tie.Need-loop-i-init invariant-loop decreases-loop
 loop-holds c =
-    let args = c.before.before.args in
+    let args = c.args in
     (omega arith, omega arith, begun (units_all args.words.now args.count))
 
-mul-from : tie.Need-overflow-mul-from invariant-loop decreases-loop
+mul-from : tie.Need-overflow_mul-from invariant-loop decreases-loop
 mul-from c = omega arith
 
-mul-start : tie.Need-overflow-mul-start invariant-loop decreases-loop
+mul-start : tie.Need-offset_bounds-words-from invariant-loop decreases-loop
 mul-start c = omega arith
 
-shared-slice-read-start : tie.Need-shared-slice-read-start invariant-loop decreases-loop
-shared-slice-read-start c = omega arith
+shared_slice_read-start : tie.Need-bounds-words-from invariant-loop decreases-loop
+shared_slice_read-start c = omega arith
 
-add-end : tie.Need-overflow-add-end invariant-loop decreases-loop
+add-end : tie.Need-overflow_add-end invariant-loop decreases-loop
 add-end c = omega arith
 
-mul-end : tie.Need-overflow-mul-end invariant-loop decreases-loop
+mul-end : tie.Need-offset_bounds-words-from-in-loop-i invariant-loop decreases-loop
 mul-end c = omega arith
 
-shared-slice-read-end : tie.Need-shared-slice-read-end invariant-loop decreases-loop
-shared-slice-read-end c = omega arith
+shared_slice_read-end : tie.Need-bounds-words-from-in-loop-i invariant-loop decreases-loop
+shared_slice_read-end c = omega arith
 
-add_row : tie.Need-overflow-add-row invariant-loop decreases-loop
+add_row : tie.Need-overflow_add-row invariant-loop decreases-loop
 add_row c = omega arith
 
-mul-row : tie.Need-overflow-mul-row invariant-loop decreases-loop
+mul-row : tie.Need-offset_bounds-words-from-in-loop-i-2 invariant-loop decreases-loop
 mul-row c = omega arith
 
-shared-slice-read-row : tie.Need-shared-slice-read-row invariant-loop decreases-loop
-shared-slice-read-row c = omega arith
+shared_slice_read-row : tie.Need-bounds-words-from-in-loop-i-2 invariant-loop decreases-loop
+shared_slice_read-row c = omega arith
 
-put-unit-requires : tie.Need-put-unit-requires invariant-loop decreases-loop
-put-unit-requires c κs = omega arith
+put_unit-requires : tie.Need-put_unit-next-requires invariant-loop decreases-loop
+put_unit-requires c κs = omega arith
 
-add-i : tie.Need-overflow-add-i invariant-loop decreases-loop
+add-i : tie.Need-overflow_add-i invariant-loop decreases-loop
 add-i c = omega arith
 
-loop-less : tie.Need-loop-smaller invariant-loop decreases-loop
+loop-less : tie.Need-loop-i-smaller invariant-loop decreases-loop
 loop-less c = omega arith
 
-loop-again : tie.Need-loop-preserved invariant-loop decreases-loop
+loop-again : tie.Need-loop-i-preserved invariant-loop decreases-loop
 loop-again c =
-    let line = c.before.before.put-unit.ensures in
-    let taken = c.before.before.before.before.before.before.before.loop-test.true in
-    let last = c.before.before.before.before.before.before.before.before.loop in
-    let args = c.before.before.before.before.before.before.before.before.before.before.before.args in
+    let line = c.put_unit-next.ensures in
+    let taken = c.loop-i-test.true in
+    let last = c.loop-i in
+    let args = c.args in
     (omega arith, omega arith, goes_on last.invariant.2 (units_turn args.words.now args.count last.i taken) line)
 
-same_length : tie.Need-same-length invariant-loop decreases-loop
-same_length c = c.before.loop.invariant.2.long
+same_length : tie.Need-shape_of-out invariant-loop decreases-loop
+same_length c = c.loop-i.invariant.2.long
 
 returns : tie.Need-returns invariant-loop decreases-loop
 returns c =
-    let last = c.before.loop in
-    let args = c.before.before.before.before.args in
-    done last.invariant.2 (units_end args.words.now args.count last.i c.loop-test.false) (omega arith)
+    let last = c.loop-i in
+    let args = c.args in
+    done last.invariant.2 (units_end args.words.now args.count last.i c.loop-i-test.false) (omega arith)
 
-pub put-units-spec : {M : Type 1} → statement M
-put-units-spec =
+pub put_units_spec : {M : Type 1} → statement M
+put_units_spec =
     tie.close
     (tie.spec
     invariant-loop
@@ -85,14 +85,14 @@ put-units-spec =
     loop-holds
     mul-from
     mul-start
-    shared-slice-read-start
+    shared_slice_read-start
     add-end
     mul-end
-    shared-slice-read-end
+    shared_slice_read-end
     add_row
     mul-row
-    shared-slice-read-row
-    put-unit-requires
+    shared_slice_read-row
+    put_unit-requires
     add-i
     loop-less
     loop-again

@@ -5,62 +5,62 @@ use borrow.Author.Rules.{rules}
 use Rattle.replay.proofs.calls.spans_agree.Statement.{statement}
 use Rattle.replay.proofs.calls.spans_agree.Tie as tie
 
-cast-words : tie.Need-overflow-cast-words
+cast-words : tie.Need-overflow_cast-words
 cast-words c = search rules
 
-mul-word : tie.Need-overflow-mul-word
+mul-word : tie.Need-overflow_mul-words
 mul-word c = search rules
 
-add-word : tie.Need-overflow-add-word
+add-word : tie.Need-overflow_add-words
 add-word c = search rules
 
 word-requires : tie.Need-word-requires
 word-requires c κs = search rules
 
-least-requires : tie.Need-least-requires
+least-requires : tie.Need-least-room-requires
 least-requires c κs = search rules
 
-mul-word-2 : tie.Need-overflow-mul-word-2
+mul-word-2 : tie.Need-overflow_mul-words-2
 mul-word-2 c = search rules
 
-add-word-2 : tie.Need-overflow-add-word-2
+add-word-2 : tie.Need-overflow_add-words-2
 add-word-2 c = search rules
 
-word-requires-2 : tie.Need-word-requires-2
+word-requires-2 : tie.Need-word-lo_edge-requires
 word-requires-2 c κs = search rules
 
-mul-word-3 : tie.Need-overflow-mul-word-3
+mul-word-3 : tie.Need-overflow_mul-words-3
 mul-word-3 c = search rules
 
-add-word-3 : tie.Need-overflow-add-word-3
+add-word-3 : tie.Need-overflow_add-words-3
 add-word-3 c = search rules
 
-word-requires-3 : tie.Need-word-requires-3
+word-requires-3 : tie.Need-word-hi_edge-requires
 word-requires-3 c κs = search rules
 
-slice-relend-prefix-tikuwero-tbu-spans : tie.Need-slice-relend-prefix-tikuwero-tbu-spans
-slice-relend-prefix-tikuwero-tbu-spans c = search rules
+slice_relend-prefix-tikuwero_tbu_spans : tie.Need-slice_bounds-tikuwero_tbu_spans-end
+slice_relend-prefix-tikuwero_tbu_spans c = search rules
 
-slice-aggregate-tikuwero-tbu-spans : tie.Need-slice-aggregate-tikuwero-tbu-spans
-slice-aggregate-tikuwero-tbu-spans c = sym (length-take-le _ _ c.before.before.before.least.ensures)
+slice_aggregate-tikuwero_tbu_spans : tie.Need-slice_bounds-tikuwero_tbu_spans-end-2
+slice_aggregate-tikuwero_tbu_spans c = sym (length-take-le _ _ c.least-room.ensures)
 
-tikuwero-tbu-spans-requires : tie.Need-tikuwero-tbu-spans-requires
-tikuwero-tbu-spans-requires c κs = search rules
+tikuwero_tbu_spans-requires : tie.Need-tikuwero_tbu_spans-returned-requires
+tikuwero_tbu_spans-requires c κs = search rules
 
 status-requires : tie.Need-status-requires
 status-requires c κs = search rules
 
-not-written-requires : tie.Need-not-written-requires
-not-written-requires c κs = search rules
+not_written-requires : tie.Need-not_written-requires
+not_written-requires c κs = search rules
 
-same_length : tie.Need-same-length
+same_length : tie.Need-shape_of-out
 same_length c = search rules
 
 returns : tie.Need-returns
 returns c = search rules
 
-pub spans-agree-spec : {M : Type 1} → statement M
-spans-agree-spec =
+pub spans_agree_spec : {M : Type 1} → statement M
+spans_agree_spec =
     tie.close
     (tie.spec
     cast-words
@@ -74,10 +74,10 @@ spans-agree-spec =
     mul-word-3
     add-word-3
     word-requires-3
-    slice-relend-prefix-tikuwero-tbu-spans
-    slice-aggregate-tikuwero-tbu-spans
-    tikuwero-tbu-spans-requires
+    slice_relend-prefix-tikuwero_tbu_spans
+    slice_aggregate-tikuwero_tbu_spans
+    tikuwero_tbu_spans-requires
     status-requires
-    not-written-requires
+    not_written-requires
     same_length
     returns)

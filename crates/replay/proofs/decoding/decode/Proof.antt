@@ -5,13 +5,13 @@ use borrow.Author.Rules.{rules}
 use Rattle.replay.proofs.decoding.decode.Statement.{statement}
 use Rattle.replay.proofs.decoding.decode.Tie as tie
 
-cast-at : tie.Need-overflow-cast-at
+cast-at : tie.Need-overflow_cast-at
 cast-at c = search rules
 
-mul_at : tie.Need-overflow-mul-at
+mul_at : tie.Need-overflow_mul-at
 mul_at c = search rules
 
-add-lay : tie.Need-overflow-add-lay
+add-lay : tie.Need-overflow_add-at
 add-lay c = search rules
 
 lay-requires : tie.Need-lay-requires
@@ -20,35 +20,35 @@ lay-requires c κs = search rules
 word-requires : tie.Need-word-requires
 word-requires c κs = search rules
 
-least-requires : tie.Need-least-requires
+least-requires : tie.Need-least-len-requires
 least-requires c κs = search rules
 
-slice-reshare-prefix-agrees : tie.Need-slice-reshare-prefix-agrees
-slice-reshare-prefix-agrees c = search rules
+slice_reshare-prefix-agrees : tie.Need-slice_bounds-agrees-end
+slice_reshare-prefix-agrees c = search rules
 
-slice-aggregate-agrees : tie.Need-slice-aggregate-agrees
-slice-aggregate-agrees c = sym (length-take-le _ _ c.before.least.ensures)
+slice_aggregate-agrees : tie.Need-slice_bounds-agrees-end-2
+slice_aggregate-agrees c = sym (length-take-le _ _ c.least-len.ensures)
 
-slice-aggregate-agrees-2 : tie.Need-slice-aggregate-agrees-2
-slice-aggregate-agrees-2 c = search rules
+slice_aggregate-agrees-2 : tie.Need-slice_bounds-agrees-end-3
+slice_aggregate-agrees-2 c = search rules
 
-slice-aggregate-agrees-3 : tie.Need-slice-aggregate-agrees-3
-slice-aggregate-agrees-3 c = search rules
+slice_aggregate-agrees-3 : tie.Need-slice_bounds-agrees-end-4
+slice_aggregate-agrees-3 c = search rules
 
-slice-aggregate-agrees-4 : tie.Need-slice-aggregate-agrees-4
-slice-aggregate-agrees-4 c = search rules
+slice_aggregate-agrees-4 : tie.Need-slice_bounds-agrees-end-5
+slice_aggregate-agrees-4 c = search rules
 
 agrees-requires : tie.Need-agrees-requires
 agrees-requires c κs = search rules
 
-same_length : tie.Need-same-length
+same_length : tie.Need-shape_of-record
 same_length c = search rules
 
 returns : tie.Need-returns
 returns c = search rules
 
-pub decode-spec : {M : Type 1} → statement M
-decode-spec =
+pub decode_spec : {M : Type 1} → statement M
+decode_spec =
     tie.close
     (tie.spec
     cast-at
@@ -57,11 +57,11 @@ decode-spec =
     lay-requires
     word-requires
     least-requires
-    slice-reshare-prefix-agrees
-    slice-aggregate-agrees
-    slice-aggregate-agrees-2
-    slice-aggregate-agrees-3
-    slice-aggregate-agrees-4
+    slice_reshare-prefix-agrees
+    slice_aggregate-agrees
+    slice_aggregate-agrees-2
+    slice_aggregate-agrees-3
+    slice_aggregate-agrees-4
     agrees-requires
     same_length
     returns)

@@ -6,20 +6,20 @@ use Rattle.ieee.proofs.Pattern.{number_bits}
 use Rattle.replay.proofs.input.float.Statement.{statement}
 use Rattle.replay.proofs.input.float.Tie as tie
 
-mul-bits : tie.Need-overflow-mul-bits
+mul-bits : tie.Need-overflow_mul-bits
 mul-bits c = search rules
 
-add-bits : tie.Need-overflow-add-bits
+add-bits : tie.Need-overflow_add-bits
 add-bits c = search rules
 
-float-from-bits-result : tie.Need-float-from-bits-result
-float-from-bits-result c = number_bits binary64 (c.before.args.low + 4294967296 * c.before.args.high) c.if1.false
+float_from-bits-result : tie.Need-float_from_bits-result
+float_from-bits-result c = number_bits binary64 (c.args.low + 4294967296 * c.args.high) c.if-bits-gt9218868437227405312.false
 
-returns : tie.Need-returns
+returns : tie.Need-returns-then-bits-gt9218868437227405312
 returns c = search rules
 
-returns-2 : tie.Need-returns-2
+returns-2 : tie.Need-returns-else-bits-gt9218868437227405312
 returns-2 c = search rules
 
-pub float-spec : {M : Type 1} → statement M
-float-spec = tie.close (tie.spec mul-bits add-bits float-from-bits-result returns returns-2)
+pub float_spec : {M : Type 1} → statement M
+float_spec = tie.close (tie.spec mul-bits add-bits float_from-bits-result returns returns-2)

@@ -7,11 +7,11 @@ use Rattle.replay.specs.Marks.{float_mark}
 use Rattle.replay.proofs.marks.float_zero_or_mark.Statement.{statement}
 use Rattle.replay.proofs.marks.float_zero_or_mark.Tie as tie
 
-returns : tie.Need-returns
-returns c = taken float_mark (lt-ltb _ _ c.if1.true)
+returns : tie.Need-returns-then-i-count
+returns c = taken float_mark (lt-ltb _ _ c.if-i-count.true)
 
-returns-2 : tie.Need-returns-2
-returns-2 c = passed (of_bits binary64 0) (le-ltb _ _ c.if1.false) refl
+returns-2 : tie.Need-returns-else-i-count
+returns-2 c = passed (of_bits binary64 0) (le-ltb _ _ c.if-i-count.false) refl
 
-pub float-zero-or-mark-spec : {M : Type 1} → statement M
-float-zero-or-mark-spec = tie.close (tie.spec returns returns-2)
+pub float_zero_or_mark_spec : {M : Type 1} → statement M
+float_zero_or_mark_spec = tie.close (tie.spec returns returns-2)

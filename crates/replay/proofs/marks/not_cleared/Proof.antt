@@ -16,52 +16,52 @@ use Rattle.replay.proofs.marks.not_cleared.Tie as tie
 abbrev Test : List ℕ → ℕ → ℕ → Bool
 Test cells count i = not (eqb (get_or cells i 0) (zero_or_mark count i))
 
-abbrev invariant-loop : tie.invariant-loop
+abbrev invariant-loop : tie.invariant-loop-i
 invariant-loop cells count i₀ i = (i ≤ length cells) × (any_below (Test cells count) i ≡ false)
 
-abbrev decreases-loop : tie.decreases-loop
+abbrev decreases-loop : tie.decreases-loop-i
 decreases-loop cells count i₀ i = length cells - i
 
-loop-holds : tie.Need-loop-init invariant-loop decreases-loop
+loop-holds : tie.Need-loop-i-init invariant-loop decreases-loop
 loop-holds c = (search rules, any_none _)
 
-mul-if1 : tie.Need-overflow-mul-if1 invariant-loop decreases-loop
+mul-if1 : tie.Need-offset_bounds-cells-i invariant-loop decreases-loop
 mul-if1 c = search rules
 
-shared-slice-read-if1 : tie.Need-shared-slice-read-if1 invariant-loop decreases-loop
-shared-slice-read-if1 c = search rules
+shared_slice_read-if1 : tie.Need-bounds-cells-i invariant-loop decreases-loop
+shared_slice_read-if1 c = search rules
 
-zero-or-mark-requires : tie.Need-zero-or-mark-requires invariant-loop decreases-loop
-zero-or-mark-requires c κs = search rules
+zero_or_mark-requires : tie.Need-zero_or_mark-requires invariant-loop decreases-loop
+zero_or_mark-requires c κs = search rules
 
-returns : tie.Need-returns invariant-loop decreases-loop
-returns c = sym (any_found _ _ _ c.before.before.before.loop-test.true (unequal c.before.zero-or-mark.ensures c.if1.true))
+returns : tie.Need-returns-then-cells-i invariant-loop decreases-loop
+returns c = sym (any_found _ _ _ c.loop-i-test.true (unequal c.zero_or_mark.ensures c.if-cells-i.true))
 
-add-i : tie.Need-overflow-add-i invariant-loop decreases-loop
+add-i : tie.Need-overflow_add-i invariant-loop decreases-loop
 add-i c = search rules
 
-loop-less : tie.Need-loop-smaller invariant-loop decreases-loop
+loop-less : tie.Need-loop-i-smaller invariant-loop decreases-loop
 loop-less c = search rules
 
-loop-again : tie.Need-loop-preserved invariant-loop decreases-loop
+loop-again : tie.Need-loop-i-preserved invariant-loop decreases-loop
 loop-again c = (
   search rules,
-  any_more _ _ c.before.before.before.before.loop.invariant.1 (equal c.before.zero-or-mark.ensures c.if1.false),
+  any_more _ _ c.loop-i.invariant.1 (equal c.zero_or_mark.ensures c.if-cells-i.false),
 )
 
-returns-2 : tie.Need-returns-2 invariant-loop decreases-loop
-returns-2 c = any_end _ _ _ c.before.loop.invariant.0 c.loop-test.false c.before.loop.invariant.1
+returns-2 : tie.Need-returns invariant-loop decreases-loop
+returns-2 c = any_end _ _ _ c.loop-i.invariant.0 c.loop-i-test.false c.loop-i.invariant.1
 
-pub not-cleared-spec : {M : Type 1} → statement M
-not-cleared-spec =
+pub not_cleared_spec : {M : Type 1} → statement M
+not_cleared_spec =
     tie.close
     (tie.spec
     invariant-loop
     decreases-loop
     loop-holds
     mul-if1
-    shared-slice-read-if1
-    zero-or-mark-requires
+    shared_slice_read-if1
+    zero_or_mark-requires
     returns
     add-i
     loop-less

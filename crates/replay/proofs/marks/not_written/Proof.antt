@@ -18,53 +18,53 @@ use Rattle.replay.proofs.marks.not_written.Tie as tie
 abbrev Test : List ℕ → List ℕ → ℕ → ℕ → Bool
 Test cells body count i = not (eqb (get_or cells i 0) (word_or_mark body count i))
 
-abbrev invariant-loop : tie.invariant-loop
+abbrev invariant-loop : tie.invariant-loop-i
 invariant-loop cells body count i₀ i = (i ≤ length cells) × (any_below (Test cells body count) i ≡ false)
 
-abbrev decreases-loop : tie.decreases-loop
+abbrev decreases-loop : tie.decreases-loop-i
 decreases-loop cells body count i₀ i = length cells - i
 
-returns : tie.Need-returns invariant-loop decreases-loop
+returns : tie.Need-returns-then-cells-count invariant-loop decreases-loop
 returns c =
-    let a = c.before.before.before.args in
-    or_found (ltb (length a.cells.now) a.count) (unlike (word_or_mark a.body.now a.count) a.cells.now) (lt-ltb _ _ c.if1.true)
+    let a = c.args in
+    or_found (ltb (length a.cells.now) a.count) (unlike (word_or_mark a.body.now a.count) a.cells.now) (lt-ltb _ _ c.if-cells-count.true)
 
-loop-holds : tie.Need-loop-init invariant-loop decreases-loop
+loop-holds : tie.Need-loop-i-init invariant-loop decreases-loop
 loop-holds c = (search rules, any_none _)
 
-mul-if2 : tie.Need-overflow-mul-if2 invariant-loop decreases-loop
+mul-if2 : tie.Need-offset_bounds-cells-i invariant-loop decreases-loop
 mul-if2 c = search rules
 
-shared-slice-read-if2 : tie.Need-shared-slice-read-if2 invariant-loop decreases-loop
-shared-slice-read-if2 c = search rules
+shared_slice_read-if2 : tie.Need-bounds-cells-i invariant-loop decreases-loop
+shared_slice_read-if2 c = search rules
 
-word-or-mark-requires : tie.Need-word-or-mark-requires invariant-loop decreases-loop
-word-or-mark-requires c κs = search rules
+word_or_mark-requires : tie.Need-word_or_mark-requires invariant-loop decreases-loop
+word_or_mark-requires c κs = search rules
 
-returns-2 : tie.Need-returns-2 invariant-loop decreases-loop
+returns-2 : tie.Need-returns-then-cells-i invariant-loop decreases-loop
 returns-2 c =
-    let a = c.before.before.before.before.before.before.before.before.args in
-    sym (any_found _ _ _ c.before.before.before.loop-test.true (unequal c.before.word-or-mark.ensures c.if2.true)) ∙ or_rest (ltb (length a.cells.now) a.count) (unlike (word_or_mark a.body.now a.count) a.cells.now) (le-ltb _ _ c.before.before.before.before.before.if1.false)
+    let a = c.args in
+    sym (any_found _ _ _ c.loop-i-test.true (unequal c.word_or_mark.ensures c.if-cells-i.true)) ∙ or_rest (ltb (length a.cells.now) a.count) (unlike (word_or_mark a.body.now a.count) a.cells.now) (le-ltb _ _ c.if-cells-count.false)
 
-add-i : tie.Need-overflow-add-i invariant-loop decreases-loop
+add-i : tie.Need-overflow_add-i invariant-loop decreases-loop
 add-i c = search rules
 
-loop-less : tie.Need-loop-smaller invariant-loop decreases-loop
+loop-less : tie.Need-loop-i-smaller invariant-loop decreases-loop
 loop-less c = search rules
 
-loop-again : tie.Need-loop-preserved invariant-loop decreases-loop
+loop-again : tie.Need-loop-i-preserved invariant-loop decreases-loop
 loop-again c = (
   search rules,
-  any_more _ _ c.before.before.before.before.loop.invariant.1 (equal c.before.word-or-mark.ensures c.if2.false),
+  any_more _ _ c.loop-i.invariant.1 (equal c.word_or_mark.ensures c.if-cells-i.false),
 )
 
-returns-3 : tie.Need-returns-3 invariant-loop decreases-loop
+returns-3 : tie.Need-returns invariant-loop decreases-loop
 returns-3 c =
-    let a = c.before.before.before.before.before.args in
-    any_end _ _ _ c.before.loop.invariant.0 c.loop-test.false c.before.loop.invariant.1 ∙ or_rest (ltb (length a.cells.now) a.count) (unlike (word_or_mark a.body.now a.count) a.cells.now) (le-ltb _ _ c.before.before.if1.false)
+    let a = c.args in
+    any_end _ _ _ c.loop-i.invariant.0 c.loop-i-test.false c.loop-i.invariant.1 ∙ or_rest (ltb (length a.cells.now) a.count) (unlike (word_or_mark a.body.now a.count) a.cells.now) (le-ltb _ _ c.if-cells-count.false)
 
-pub not-written-spec : {M : Type 1} → statement M
-not-written-spec =
+pub not_written_spec : {M : Type 1} → statement M
+not_written_spec =
     tie.close
     (tie.spec
     invariant-loop
@@ -72,8 +72,8 @@ not-written-spec =
     returns
     loop-holds
     mul-if2
-    shared-slice-read-if2
-    word-or-mark-requires
+    shared_slice_read-if2
+    word_or_mark-requires
     returns-2
     add-i
     loop-less

@@ -7,24 +7,24 @@ use Rattle.replay.specs.Marks.{same_float}
 use Rattle.replay.proofs.marks.same_float.Statement.{statement}
 use Rattle.replay.proofs.marks.same_float.Tie as tie
 
-returns : tie.Need-returns
+returns : tie.Need-returns-then-x
 unfolding same_float
-returns c = rw (nan_test c.before.args.x ∙ c.if1.true)
+returns c = rw (nan_test c.args.x ∙ c.if-x.true)
 
-returns-2 : tie.Need-returns-2
+returns-2 : tie.Need-returns-then-y
 unfolding same_float
-returns-2 c = rw (nan_test c.before.before.args.x ∙ c.before.if1.false, nan_test c.before.before.args.y ∙ c.if2.true)
+returns-2 c = rw (nan_test c.args.x ∙ c.if-x.false, nan_test c.args.y ∙ c.if-y.true)
 
-float-to-bits-result : tie.Need-float-to-bits-result
-float-to-bits-result c = subst (λ (b : Bool). T (not b)) (sym (nan_test c.before.before.args.x ∙ c.before.if1.false)) tt
+float_to-bits-result : tie.Need-float_to_bits-result
+float_to-bits-result c = subst (λ (b : Bool). T (not b)) (sym (nan_test c.args.x ∙ c.if-x.false)) tt
 
-float-to-bits-result-2 : tie.Need-float-to-bits-result-2
-float-to-bits-result-2 c = subst (λ (b : Bool). T (not b)) (sym (nan_test c.before.before.args.y ∙ c.if2.false)) tt
+float_to-bits-result-2 : tie.Need-float_to_bits-result-2
+float_to-bits-result-2 c = subst (λ (b : Bool). T (not b)) (sym (nan_test c.args.y ∙ c.if-y.false)) tt
 
-returns-3 : tie.Need-returns-3
+returns-3 : tie.Need-returns
 unfolding same_float
-returns-3 c = rw (nan_test c.before.before.args.x ∙ c.before.if1.false, nan_test c.before.before.args.y ∙ c.if2.false)
+returns-3 c = rw (nan_test c.args.x ∙ c.if-x.false, nan_test c.args.y ∙ c.if-y.false)
 
-pub same-float-spec : {M : Type 1} → statement M
-same-float-spec =
-    tie.close (tie.spec returns returns-2 float-to-bits-result float-to-bits-result-2 returns-3)
+pub same_float_spec : {M : Type 1} → statement M
+same_float_spec =
+    tie.close (tie.spec returns returns-2 float_to-bits-result float_to-bits-result-2 returns-3)

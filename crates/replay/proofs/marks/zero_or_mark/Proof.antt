@@ -6,11 +6,11 @@ use Rattle.replay.specs.Marks.{mark}
 use Rattle.replay.proofs.marks.zero_or_mark.Statement.{statement}
 use Rattle.replay.proofs.marks.zero_or_mark.Tie as tie
 
-returns : tie.Need-returns
-returns c = taken mark (lt-ltb _ _ c.if1.true)
+returns : tie.Need-returns-then-i-count
+returns c = taken mark (lt-ltb _ _ c.if-i-count.true)
 
-returns-2 : tie.Need-returns-2
-returns-2 c = passed 0 (le-ltb _ _ c.if1.false) refl
+returns-2 : tie.Need-returns-else-i-count
+returns-2 c = passed 0 (le-ltb _ _ c.if-i-count.false) refl
 
-pub zero-or-mark-spec : {M : Type 1} → statement M
-zero-or-mark-spec = tie.close (tie.spec returns returns-2)
+pub zero_or_mark_spec : {M : Type 1} → statement M
+zero_or_mark_spec = tie.close (tie.spec returns returns-2)
