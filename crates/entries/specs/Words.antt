@@ -1,7 +1,7 @@
 -- The words of a result entry. Document 01, "Spans, marks and order": "id, llr bits, pass, k, then sixteen triples start, end, row
 -- (4,294,967,295: no anchor); unused triples are 0". Document 02, Ask 2: "after the unit count come the low and high halves of the
 -- unclamped f64 sum's bits, then the triples". How many triples there are is the edition's to say: `most`.
-use Rattle.std.specs.Prelude.{ℕ, ◌+◌, ◌-◌, ◌*◌, ◌/◌, ◌%◌, ◌^◌, List, [], ◌∷◌, ◌++◌, length, replicate}
+use Rattle.std.specs.Prelude.{ℕ, ◌-◌, ◌*◌, ◌/◌, ◌%◌, ◌^◌, List, [], ◌∷◌, ◌++◌, length, replicate}
 use Rattle.std.specs.Float.{binary32, binary64}
 use Rattle.std.specs.Float.Ieee.{to_bits}
 use Rattle.entries.specs.Entry.{ReportedUnit, Entry}

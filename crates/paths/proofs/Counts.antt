@@ -5,7 +5,7 @@ use native.Mathlib.Omega.{arith}
 use mathlib.Core.Path.{◌≡◌, refl, ap, ◌∙◌}
 use borrow.Author.Tests.{lt-ltb}
 use Rattle.paths.specs.Problem.{Problem}
-use Rattle.paths.specs.Path.{Path, begin, gap, unit, end, count, Admitted, begins, gaps, units, HasPath, NoPath}
+use Rattle.paths.specs.Path.{Path, begin, gap, end, count, Admitted, begins, gaps, units, HasPath, NoPath}
 use Rattle.paths.specs.CellRule.{chosen_path}
 use Rattle.paths.specs.Inner.Ranges.{Origins, first_reached}
 use Rattle.paths.proofs.PathRoutes.{end_inside}

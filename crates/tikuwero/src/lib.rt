@@ -24,12 +24,7 @@ use spans::spans::{SpansAnswer, tbu_spans};
 const NO_BOUNDARY: i32 = 2147483647;
 
 // The number of entries in `out`.
-pub fn tikuwero_decode(
-    record: &[u8],
-    best: &mut [f64],
-    back: &mut [u32],
-    out: &mut [u32],
-) -> i32
+pub fn tikuwero_decode(record: &[u8], best: &mut [f64], back: &mut [u32], out: &mut [u32]) -> i32
     ensures { DecodeCall «record».now best.old back.old out.old result best.new back.new out.new }
 {
     match decode(record, best, back, out) {

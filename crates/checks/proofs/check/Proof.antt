@@ -1,8 +1,6 @@
 -- What the rules of the trailer say comes first; those of the contents decide where they say nothing.
-use mathlib.Core.List.{List}
 use mathlib.Core.Option.{none}
 use mathlib.Core.Path.{◌≡◌, sym, ◌∙◌}
-use Prim.Native.Nat.{ℕ}
 use borrow.Author.Rules.{rules}
 use Rattle.laws.specs.Rules.{first_of}
 use Rattle.record.specs.Layout.{layout_of, limits_of}

@@ -10,7 +10,7 @@ use Rattle.laws.specs.Rules.{Rule, first_of}
 use Rattle.laws.proofs.Rules.{gives, leaves}
 use Rattle.record.specs.Inner.Bounds.{CandidatesRead}
 use Rattle.record.specs.Layout.{layout_of, limits_at}
-use Rattle.record.specs.Conditions.{bad_track, bad_cost, bare}
+use Rattle.record.specs.Conditions.{bad_track, bad_cost}
 use Rattle.record.specs.Refusals.{content_rules, candidate_rules}
 use Rattle.record.specs.Inner.Checks.{answer}
 use Rattle.limits.specs.declared.edition.Limits.{Limits}

@@ -1,5 +1,5 @@
 -- Lists of frames in order.
-use Rattle.std.specs.Prelude.{ℕ, suc, ◌-◌, ◌<◌, List, length, get_or}
+use Rattle.std.specs.Prelude.{ℕ, suc, ◌<◌, List, length, get_or}
 
 -- A list of frames in strictly increasing order, which number 5 asks of the four lists.
 abbrev pub Increasing : List ℕ → Type 0

@@ -1,5 +1,5 @@
 -- Room for the spans of an entry.
-use Rattle.std.specs.Prelude.{ℕ, ◌-◌, ◌*◌, ◌≤◌, false, List, ◌≡◌, length}
+use Rattle.std.specs.Prelude.{ℕ, ◌*◌, ◌≤◌, false, List, ◌≡◌, length}
 use Rattle.limits.specs.Common.{last_frame}
 use Rattle.frames.specs.Outcome.{any_above}
 use Rattle.frames.specs.Frames.{ascending}

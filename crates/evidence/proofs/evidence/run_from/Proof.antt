@@ -3,7 +3,6 @@ use Prim.Native.Nat.{◌+◌, ◌-◌, ◌≤◌}
 use mathlib.Core.Path.{◌≡◌, refl, sym, ◌∙◌}
 use native.Mathlib.Omega.{arith}
 use borrow.Author.Rules.{rules}
-use borrow.Author.Tests.{not-true, not-false}
 use Rattle.evidence.specs.CreakyTail.{run_from}
 use Rattle.evidence.proofs.Tail.{run_on, run_ends, run_none, run_whole, run_longer}
 use Rattle.evidence.proofs.evidence.run_from.Statement.{statement}

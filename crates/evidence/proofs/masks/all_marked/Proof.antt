@@ -7,7 +7,6 @@ use native.Mathlib.Nat.{not-suc-le-zero}
 use native.Mathlib.Numerals.{sub-one}
 use native.Mathlib.Omega.{arith}
 use borrow.Author.Rules.{rules}
-use borrow.Author.Tests.{not-true, not-false}
 use Rattle.evidence.specs.Masks.{all_marked, marked}
 use Rattle.evidence.proofs.masks.all_marked.Statement.{statement}
 use Rattle.evidence.proofs.masks.all_marked.Tie as tie

@@ -77,8 +77,8 @@ loop-again c =
     let list = entry_of a.list.now in
     filling_more l.invariant (omega arith)
     (elim c.if-place-eq0.branch [
-      then-place-eq0 w ↦ w.out-is ∙ figure_first list a.rows.now a.first_row place w.if-place-eq0.true
-    | else-place-eq0 w ↦ w.out-is ∙ figure_other list a.rows.now a.first_row place w.if-place-eq0.false
+      | then-place-eq0 w ↦ w.out-is ∙ figure_first list a.rows.now a.first_row place w.if-place-eq0.true
+      | else-place-eq0 w ↦ w.out-is ∙ figure_other list a.rows.now a.first_row place w.if-place-eq0.false
     ])
 
 same_length : tie.Need-shape_of-out invariant-loop decreases-loop

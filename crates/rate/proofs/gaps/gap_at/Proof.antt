@@ -48,9 +48,9 @@ loop-again c =
     let counted = c.gaps_below.ensures in
     let inv = c.loop-range.invariant in
     elim c.if-gaps_below-place.branch [
-      then-gaps_below-place w ↦
+      | then-gaps_below-place w ↦
           (omega arith, rw w.low-is (subst (λ (n : ℕ). n ≤ args.place) counted w.if-gaps_below-place.true), passed_too gs inv.2 (omega arith))
-    | else-gaps_below-place w ↦
+      | else-gaps_below-place w ↦
           (omega arith, rw w.low-is inv.1, passed_too gs (subst (λ (n : ℕ). args.place < n) counted w.if-gaps_below-place.false) (omega arith))
     ]
 

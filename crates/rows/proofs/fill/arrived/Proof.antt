@@ -51,10 +51,10 @@ voice-is c =
     let middle = get_or a.words.now (middles_at + a.j) 0 in
     let score = score_read a.bytes.now a.words.now a.column a.j in
     elim c.if-low-middle.branch [
-      then-low-middle w ↦
+      | then-low-middle w ↦
           w.voice-is ∙ w.score_at-voice.ensures
           ∙ sym (ap (λ (b : Bool). cond b score a.costs.«unvoiced») (lt-ltb a.low middle w.if-low-middle.true))
-    | else-low-middle w ↦
+      | else-low-middle w ↦
           w.voice-is ∙ w.unanchored-voice.ensures
           ∙ sym (ap (λ (b : Bool). cond b score a.costs.«unvoiced») (le-ltb a.low middle w.if-low-middle.false))
     ]

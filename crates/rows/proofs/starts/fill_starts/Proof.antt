@@ -126,10 +126,10 @@ kept-way :
     ((l.j ≡ 0) × (c.if-j-gt0.kept ≡ start_way a.figures.now l.j))
     ⊎ ((0 < l.j) × (c.if-j-gt0.kept ≡ or_later (start_way a.figures.now l.j) (gap_way l.best a.figures.now l.j)))
 unfolding start_way gap_way
-kept-way c = 
+kept-way c =
     elim c.if-j-gt0.branch [
-      then-j-gt0 w ↦ inr (w.if-j-gt0.true, w.kept-is ∙ w.or-kept.ensures)
-    | else-j-gt0 w ↦ inl (let none = w.if-j-gt0.false in omega arith, w.kept-is)
+      | then-j-gt0 w ↦ inr (w.if-j-gt0.true, w.kept-is ∙ w.or-kept.ensures)
+      | else-j-gt0 w ↦ inl (let none = w.if-j-gt0.false in omega arith, w.kept-is)
     ]
 
 kept_markable : (c : tie.Joined-j-gt0 invariant-loop decreases-loop) → Markable c.if-j-gt0.kept

@@ -150,10 +150,10 @@ turned c =
     let was = c.loop-mark.invariant in
     let on = c.loop-mark-test.true in
     elim c.if-mark-eq2.branch [
-      then-mark-eq2 w ↦
+      | then-mark-eq2 w ↦
           rw (w.first-is, w.last-is, w.s-is, w.j-is)
           (omega (arith, (gap_back was w.if-mark-eq2.true).1), crossed-back was w.if-mark-eq2.true)
-    | else-mark-eq2 w ↦
+      | else-mark-eq2 w ↦
           rw (w.first-is, w.last-is, w.s-is, w.j-is)
           ((unit-back was on w.if-mark-eq2.false).lower, united-back was on w.if-mark-eq2.false)
     ]

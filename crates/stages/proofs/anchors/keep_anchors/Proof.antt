@@ -79,24 +79,24 @@ loop-again c =
     let more : l.i < length anchors = omega arith in
     let kept = kept_in mask first (take (l.i + 1) anchors) in
     elim c.if-within.branch [
-      then-within w ↦ (
-      omega arith,
-      omega arith,
-      subst₃ (λ (n : ℕ) (frames rows : List ℕ). Keeps kept n frames rows) (sym w.count-is) (sym w.frames-is) (sym w.rows-is)
-          (keeps_it mask first anchors l.i more l.count l.frames l.rows l.invariant.2 (omega arith)
-          (sym c.within.ensures ∙ w.if-within.true)),
-      ap length w.frames-is ∙ length-set l.frames l.count _ ∙ l.invariant.3,
-      ap length w.rows-is ∙ length-set l.rows l.count _ ∙ l.invariant.4,
-    )
-    | else-within w ↦ (
-      omega arith,
-      omega arith,
-      subst₃ (λ (n : ℕ) (frames rows : List ℕ). Keeps kept n frames rows) (sym w.count-is) (sym w.frames-is) (sym w.rows-is)
-          (drops_it mask first anchors l.i more l.count l.frames l.rows l.invariant.2
-          (sym c.within.ensures ∙ w.if-within.false)),
-      ap length w.frames-is ∙ l.invariant.3,
-      ap length w.rows-is ∙ l.invariant.4,
-    )
+      | then-within w ↦ (
+        omega arith,
+        omega arith,
+        subst₃ (λ (n : ℕ) (frames rows : List ℕ). Keeps kept n frames rows) (sym w.count-is) (sym w.frames-is) (sym w.rows-is)
+            (keeps_it mask first anchors l.i more l.count l.frames l.rows l.invariant.2 (omega arith)
+            (sym c.within.ensures ∙ w.if-within.true)),
+        ap length w.frames-is ∙ length-set l.frames l.count _ ∙ l.invariant.3,
+        ap length w.rows-is ∙ length-set l.rows l.count _ ∙ l.invariant.4,
+      )
+      | else-within w ↦ (
+        omega arith,
+        omega arith,
+        subst₃ (λ (n : ℕ) (frames rows : List ℕ). Keeps kept n frames rows) (sym w.count-is) (sym w.frames-is) (sym w.rows-is)
+            (drops_it mask first anchors l.i more l.count l.frames l.rows l.invariant.2
+            (sym c.within.ensures ∙ w.if-within.false)),
+        ap length w.frames-is ∙ l.invariant.3,
+        ap length w.rows-is ∙ l.invariant.4,
+      )
     ]
 
 same_length : tie.Need-shape_of-frames invariant-loop decreases-loop

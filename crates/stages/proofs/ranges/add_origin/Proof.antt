@@ -58,15 +58,15 @@ lowest c =
     let a = c.args in
     let high = get_or a.words.now (highs_in + a.j) 0 in
     elim c.if-words-j-eq0.branch [
-      then-words-j-eq0 w ↦ w.words-is ∙ taken a.words.now (eq-eqb high 0 w.if-words-j-eq0.true)
-    | else-words-j-eq0 w ↦ w.words-is ∙ passed (set a.words.now a.j a.i) (ne_eqb high 0 w.if-words-j-eq0.false) refl
+      | then-words-j-eq0 w ↦ w.words-is ∙ taken a.words.now (eq-eqb high 0 w.if-words-j-eq0.true)
+      | else-words-j-eq0 w ↦ w.words-is ∙ passed (set a.words.now a.j a.i) (ne_eqb high 0 w.if-words-j-eq0.false) refl
     ]
 
 lowest_long : (c : tie.Joined-words-j-eq0) → length c.if-words-j-eq0.words ≡ length c.args.words.now
 lowest_long c =
     elim c.if-words-j-eq0.branch [
-      then-words-j-eq0 w ↦ ap length w.words-is ∙ simp length-set
-    | else-words-j-eq0 w ↦ ap length w.words-is
+      | then-words-j-eq0 w ↦ ap length w.words-is ∙ simp length-set
+      | else-words-j-eq0 w ↦ ap length w.words-is
     ]
 
 middle : (c : tie.Joined-anchored) →
@@ -75,15 +75,15 @@ middle : (c : tie.Joined-anchored) →
 middle c =
     let a = c.args in
     elim c.if-anchored.branch [
-      then-anchored w ↦ w.words-is ∙ taken c.if-words-j-eq0.words w.if-anchored.true
-    | else-anchored w ↦ w.words-is ∙ passed (set c.if-words-j-eq0.words (middles_in + a.j) (a.i + 1)) w.if-anchored.false refl
+      | then-anchored w ↦ w.words-is ∙ taken c.if-words-j-eq0.words w.if-anchored.true
+      | else-anchored w ↦ w.words-is ∙ passed (set c.if-words-j-eq0.words (middles_in + a.j) (a.i + 1)) w.if-anchored.false refl
     ]
 
 middle-long : (c : tie.Joined-anchored) → length c.if-anchored.words ≡ length c.args.words.now
 middle-long c =
     elim c.if-anchored.branch [
-      then-anchored w ↦ ap length w.words-is ∙ simp length-set (lowest_long c.before)
-    | else-anchored w ↦ ap length w.words-is ∙ lowest_long c.before
+      | then-anchored w ↦ ap length w.words-is ∙ simp length-set (lowest_long c.before)
+      | else-anchored w ↦ ap length w.words-is ∙ lowest_long c.before
     ]
 
 slice_write-words-2 : tie.Need-bounds-words-j-then-anchored

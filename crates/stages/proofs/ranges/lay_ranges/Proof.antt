@@ -96,11 +96,11 @@ targets-again c =
     let j = at.targets.j in
     let more = c.targets-test.true in
     elim c.if-frames-ge-SHORTEST.branch [
-      then-frames-ge-SHORTEST w ↦
+      | then-frames-ge-SHORTEST w ↦
           rw (w.words-is, w.add_origin.ensures)
           (target_taken at.targets.invariant more start.requires.0.short
           (one_unit bounds second i j c.if-frames-to.false w.if-frames-ge-SHORTEST.true))
-    | else-frames-ge-SHORTEST w ↦
+      | else-frames-ge-SHORTEST w ↦
           rw w.words-is (target_fails at.targets.invariant more (none_short bounds second i j w.if-frames-ge-SHORTEST.false))
     ]
 
@@ -121,8 +121,8 @@ loop-again c =
     let j = at.targets.j in
     targets_end ascending at.targets.invariant
     (elim c.targets-test.branch [
-      else-targets-test w ↦ λ target h k. absurd (let past = w.targets-test.false in omega arith)
-    | then-targets-test+then-frames-to w ↦
+      | else-targets-test w ↦ λ target h k. absurd (let past = w.targets-test.false in omega arith)
+      | then-targets-test+then-frames-to w ↦
           λ target h k. none_past bounds second i j target (increasing_le bounds ascending j target h k) w.if-frames-to.true
     ])
 

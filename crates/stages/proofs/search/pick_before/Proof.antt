@@ -57,8 +57,8 @@ loop-again c =
     let place = entry_of a.places.now l.j in
     filling_more l.invariant (omega arith)
     (elim c.if-place-eq0.branch [
-      then-place-eq0 w ↦ w.out-is ∙ before_first a.list.now place w.if-place-eq0.true
-    | else-place-eq0 w ↦ w.out-is ∙ before_other a.list.now place w.if-place-eq0.false
+      | then-place-eq0 w ↦ w.out-is ∙ before_first a.list.now place w.if-place-eq0.true
+      | else-place-eq0 w ↦ w.out-is ∙ before_other a.list.now place w.if-place-eq0.false
     ])
 
 same_length : tie.Need-shape_of-out invariant-loop decreases-loop
