@@ -1,7 +1,6 @@
 -- The most units go by the mask and by the anchors and boundaries of the stage alone: not by speech, the other stage, a figure or a candidate.
 -- A pass admits a path of a candidate's count exactly where that count is at most the most units of its stage and strictness. Assumes nothing.
 use Prim.Native.Nat.{ℕ, ◌-◌, ◌≤◌, ◌<◌}
-use native.Mathlib.Omega.{arith}
 use mathlib.Core.Bool.{◌&&◌}
 use mathlib.Core.List.{List, []}
 use mathlib.Core.Logic.{◌↔◌}

@@ -1,7 +1,7 @@
 -- `closed::best_path::best_path` meets its contract. Assumes nothing.
-use mathlib.Core.List.{[], ◌++◌}
+use mathlib.Core.List.{◌++◌}
 use mathlib.Core.Path.{◌≡◌, refl, sym, ap, subst, subst⁻¹, ◌∙◌}
-use Prim.Native.Nat.{ℕ, suc, ◌+◌, ◌*◌, ◌<◌}
+use Prim.Native.Nat.{ℕ, suc, ◌*◌, ◌<◌}
 use native.Mathlib.Omega.{arith}
 use lib.Ieee.{binary64, nan, of_bits}
 use lib.ListN.{get_or, drop, replicate}

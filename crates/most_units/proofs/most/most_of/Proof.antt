@@ -1,7 +1,7 @@
 -- The front of the array is the stage's boundaries; the words say what each count of units reaches over them.
 use Prim.Native.Nat.{ℕ, ◌<◌}
 use mathlib.Core.List.{List}
-use mathlib.Core.Path.{◌≡◌, sym, ap, subst, ◌∙◌}
+use mathlib.Core.Path.{◌≡◌, ap, subst, ◌∙◌}
 use native.Mathlib.Omega.{arith}
 use Rattle.laws.proofs.Lists.{length_none}
 use Rattle.limits.specs.Capacity.{unit_counts}
