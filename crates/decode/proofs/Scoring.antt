@@ -16,7 +16,7 @@ use Rattle.phrase.specs.Inner.Unanchored.{unanchored_units}
 use Rattle.paths.specs.declared.passes.Strictness.{Strictness}
 use Rattle.paths.specs.declared.passes.Pass.{Pass}
 use Rattle.paths.specs.declared.passes.Pass.TheVariants.{NucleiStrict, CountStrict, CountRelaxed, NucleiRelaxed}
-use Rattle.paths.specs.Path.{Path, count, Admitted, units_of}
+use Rattle.paths.specs.Path.{Path, Admitted, units_of}
 use Rattle.paths.specs.Passes.{of_pass, pass_stage, pass_strictness, pass_problem, in_order}
 use Rattle.paths.specs.Demand as D
 use Rattle.paths.specs.Demand.{Answer, answer_number}

@@ -24,6 +24,7 @@ use Rattle.exact.specs.Scaled.{scaled}
 use Rattle.exact.specs.Theory.Close.{below, half_place, Errs, Close}
 use Rattle.exact.proofs.Parts.{below_neg, add_parts, mul_above, mul_below}
 use Rattle.exact.proofs.Scaled.{scaled_above, scaled_below}
+use Rattle.exact.proofs.Halves.{halved, halved_above, halved_below}
 use Rattle.exact.proofs.Nearest.{Halved, rounding_near}
 
 -- ---- figures in units of the format
@@ -200,3 +201,34 @@ module _ {grain v extra : ℕ} (errs : Errs grain v extra) where
         ap (λ (k : ℕ). over binary64 x * k) is.under_is,
         ap (λ (k : ℕ). under binary64 x * k) is.under_is,
       ))
+
+  -- a figure of at most twice `a` times a count of halves: y is n halves
+  module _ {x y : Float} (a n : ℕ) (p : Within binary64 x (2 * a)) (q : Real binary64 y)
+      (over_is : 2 * over binary64 y ≡ n * one binary64) (under_is : under binary64 y ≡ 0) (small : a * n < 2 ^ v) where
+    sized : (over binary64 x + under binary64 x) * (over binary64 y + under binary64 y) ≤ a * n * one binary64 * one binary64
+    sized =
+        let size : over binary64 x + under binary64 x ≤ 2 * a * one binary64 = omega (arith, sides binary64 x, p.bound) in
+        omega (
+          arith,
+          mul-le-mul_right (over binary64 y) size,
+          ap (λ (k : ℕ). a * one binary64 * k) over_is,
+          ap (λ (k : ℕ). (over binary64 x + under binary64 x) * k) under_is,
+        )
+
+    pub halves_close : Close grain (mul binary64 x y) (halved (scaled x *ℤ pos n)) (a * n) extra
+    halves_close =
+        let z = scaled x *ℤ pos n in
+        let figure = in_units p.real in
+        let overs : above (halved z) ≡ over binary64 x * n =
+        omega (arith, halved_above z, mul_above (scaled x) n, ap (λ (k : ℕ). k * n) figure.over_is) in
+        let unders : below (halved z) ≡ under binary64 x * n =
+        omega (arith, halved_below z, mul_below (scaled x) n, ap (λ (k : ℕ). k * n) figure.under_is) in
+        mul_close p.real q (a * n) sized small (halved z) (omega (
+          arith,
+          ap (λ (k : ℕ). k * one binary64) overs,
+          ap (λ (k : ℕ). k * one binary64) unders,
+          ap (λ (k : ℕ). over binary64 x * k) over_is,
+          ap (λ (k : ℕ). under binary64 x * k) over_is,
+          ap (λ (k : ℕ). over binary64 x * k) under_is,
+          ap (λ (k : ℕ). under binary64 x * k) under_is,
+        ))

@@ -1,5 +1,6 @@
 -- Whole numbers as differences of two naturals; figures as such; and the error of each rounded operation.
 pub mod Parts
 pub mod Scaled
+pub mod Halves
 mod Nearest
 pub mod Errors

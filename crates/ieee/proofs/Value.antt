@@ -21,7 +21,7 @@ pub mag_of : (f : Format) (x : Float) (n : ℕ) → num x * one f ≡ n * den x 
 unfolding mag
 mag_of f x n e = ap (λ (z : ℕ). z / den x) e ∙ mul-div_cancel n (den_pos x)
 
-value_cross : (x : Float) (s : Bool) (a c : ℕ) → HasValue x s a c → num x * c ≡ a * den x
+pub value_cross : (x : Float) (s : Bool) (a c : ℕ) → HasValue x s a c → num x * c ≡ a * den x
 value_cross nan s a c v = absurd v
 value_cross (inf t) s a c v = absurd v
 value_cross (fin t m e) s a c v = v.1

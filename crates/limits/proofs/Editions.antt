@@ -22,6 +22,11 @@ moderate edition = record {
   units = lit≤ tt;
 }
 
+-- "F ≤ 2,048", whatever the edition
+pub frames_2048 : (edition : ℕ) → (numbers_of edition).frames ≤ 2048
+unfolding numbers_of
+frames_2048 edition = lit≤ tt
+
 -- so the cells and the words of every record have room in arrays of so many
 module _ {l : Limits} (m : Moderate l) where
   pub cells_within : work_cells l ≤ most_cells
