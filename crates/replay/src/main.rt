@@ -10,7 +10,7 @@
 
 mod calls;
 mod counting;
-mod decoding;
+mod decodings;
 mod input;
 mod marks;
 mod pieces;
@@ -83,7 +83,7 @@ fn next_case<R: Read>(stored: &mut R, body: &mut [u8]) -> io::Result<Case>
 
 fn replay(entry: u32, body: &[u8], answer: Answer, record: &mut [u8]) -> bool {
     match entry {
-        1 => decoding::decode(body, answer, record),
+        1 => decodings::decode(body, answer, record),
         2 => calls::rate_s(body, answer),
         3 => calls::tbu_spans(body, answer),
         4 => calls::joins(body, answer),

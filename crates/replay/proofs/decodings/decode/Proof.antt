@@ -2,8 +2,8 @@
 use mathlib.Core.Path.{sym}
 use lib.Seq.{length-take-le}
 use borrow.Author.Rules.{rules}
-use Rattle.replay.proofs.decoding.decode.Statement.{statement}
-use Rattle.replay.proofs.decoding.decode.Tie as tie
+use Rattle.replay.proofs.decodings.decode.Statement.{statement}
+use Rattle.replay.proofs.decodings.decode.Tie as tie
 
 cast-at : tie.Need-overflow_cast-at
 cast-at c = search rules

@@ -2,8 +2,8 @@
 use mathlib.Core.Path.{sym}
 use lib.Seq.{length-take-le}
 use borrow.Author.Rules.{rules}
-use Rattle.replay.proofs.decoding.agrees.Statement.{statement}
-use Rattle.replay.proofs.decoding.agrees.Tie as tie
+use Rattle.replay.proofs.decodings.agrees.Statement.{statement}
+use Rattle.replay.proofs.decodings.agrees.Tie as tie
 
 cast-words : tie.Need-overflow_cast-words
 cast-words c = search rules
