@@ -8,10 +8,11 @@ tools/wrong.py try CRATE...      try the edits of crates/CRATE/tried/ with `rt m
                                  part of the proof that is missed; the exit status is 1 if one is not refused
 
 The gate tries the edits of crates/CRATE/must-fail/. Those of crates/CRATE/tried/ are left to this program, since each
-proves its crate again. An edit counts for the function whose text it changes and, where that is a private function or
-a constant, for the public functions of the crate that use it. Edits of definitions are not listed as wrong programs.
-An edit can be applied where each of its old texts stands just once in its file and has a new one. Programs are not
-listed, nor is tikuwero_c, whose functions pass their calls on to those of tikuwero, under the same contracts.
+proves a part of its crate again. An edit counts for the function whose text it changes or, where it changes a `use`
+line, that names what this brings; where that is a private function or a constant, for the public functions of the crate
+that use it. Edits of definitions are not listed as wrong programs. An edit can be applied where each of its old texts
+stands just once in its file and has a new one. Programs are not listed, nor is tikuwero_c, whose functions pass their
+calls on to those of tikuwero, under the same contracts.
 """
 import re
 import shutil
@@ -25,6 +26,7 @@ TOP = Path(__file__).resolve().parent.parent
 NOT_LISTED = {"ieee_vectors", "record_tests", "evidence_tests", "listing", "listings", "replay", "tikuwero_c"}
 HEAD = re.compile(r'^ *(pub(?:\(crate\))? )?(?:extern "C" )?(?:fn|const) (\w+)', re.M)
 USE = re.compile(r"\b(\w+)\(|\b([A-Z][A-Z0-9_]+)\b")
+BROUGHT = re.compile(r"use [\w:]+::(\w+|\{[\w, ]+\});")
 Item = namedtuple("Item", "name file public text")
 Edit = namedtuple("Edit", "label replacements")
 Replacement = namedtuple("Replacement", "file old new")
@@ -80,8 +82,15 @@ def fault_of(crate, edit):
     return None if edit.replacements else "it has no old and new text"
 
 
+def brought(line):
+    """The names that a `use` line brings."""
+    found = BROUGHT.match(line)
+    return set(re.findall(r"\w+", found[1])) if found else set()
+
+
 def changes(edit, item):
-    return any(file == item.file and old in item.text for file, old, _ in edit.replacements)
+    words = set(re.findall(r"\w+", item.text))
+    return any(file == item.file and (old in item.text or words & brought(old)) for file, old, _ in edit.replacements)
 
 
 def labels_of(item, inner, edits, seen):
