@@ -22,7 +22,7 @@ pub record Stage : Type 0 where
   pub duration : ℕ → Float
 
 -- A phrase. The mask has a byte for each frame; `nuclei` is the stage of the nuclei, whose rows come first, and
--- `added` that of the added_stage anchors, which exists exactly where it has an anchor; `score row column`.
+-- `added` that of the added-stage anchors, which exists exactly where it has an anchor; `score row column`.
 pub record Phrase : Type 0 where
   pub mask : List ℕ
   pub nuclei : Stage

@@ -21,7 +21,7 @@ word bytes k = u32_at bytes (trailer_start bytes + 4 * k)
 abbrev pub mark_at : List ℕ → ℕ → Mark
 mark_at bytes k = record { count = word bytes k; back = word bytes (k + 1) }
 
--- "Trailer: edition; F, mask pointer; N, pointer to nuclei; B, to boundaries; A, to added_stage anchors; D, to added_stage boundaries;
+-- "Trailer: edition; F, mask pointer; N, pointer to nuclei; B, to boundaries; A, to added-stage anchors; D, to added-stage boundaries;
 -- C, score pointer; M, candidate pointer; costs pointer."
 unfoldable pub trailer_of : List ℕ → Trailer
 trailer_of bytes =

@@ -1,4 +1,4 @@
--- A is the count of added_stage anchors.
+-- A is the count of added-stage anchors.
 use mathlib.Core.Bool.{true≢false}
 use mathlib.Core.Path.{refl, sym, ◌∙◌}
 use Rattle.decode.proofs.Plans.{some_added, none_added, one_added}
