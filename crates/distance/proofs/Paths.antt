@@ -8,7 +8,8 @@ use lib.Dec.{leb, leb→le}
 use lib.Ieee.{binary64, prec}
 use Rattle.laws.proofs.Tests.{by_choice}
 use Rattle.exact.specs.Theory.Close.{Errs, Close}
-use Rattle.exact.proofs.Errors.{double_place, loosen, add_close, sub_close}
+use Rattle.exact.proofs.Errors.{loosen, add_close, sub_close}
+use Rattle.exact.proofs.HalfPlace.{double_place}
 use Rattle.paths.specs.Problem.{Problem}
 use Rattle.paths.specs.Path.{Path, end, Admitted, begins, gaps, units, value, sum}
 use Rattle.paths.specs.Theory.Bounded.{Ranges, filler_bound}

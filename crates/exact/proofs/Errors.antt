@@ -25,6 +25,7 @@ use Rattle.exact.specs.Theory.Close.{below, half_place, Errs, Close}
 use Rattle.exact.proofs.Parts.{below_neg, add_parts, mul_above, mul_below}
 use Rattle.exact.proofs.Scaled.{scaled_above, scaled_below}
 use Rattle.exact.proofs.Halves.{halved, halved_above, halved_below}
+use Rattle.exact.proofs.HalfPlace.{place_is}
 use Rattle.exact.proofs.Nearest.{Halved, rounding_near}
 
 -- ---- figures in units of the format
@@ -50,26 +51,10 @@ whole_is n h = record {
     v : HasValue (of_int binary64 (pos n)) false n 1
     v = unfold of_int in round_whole binary64 false n h
 
--- ---- half places
-
-pub double_place : (v j : ℕ) → half_place (v + j) ≡ 2 ^ j * half_place v
-unfolding half_place
-double_place v j = ap (λ (z : ℕ). 2 ^ z) order ∙ pow-add 2 j (v + 1021)
-  where
-    order : v + j + 1021 ≡ j + (v + 1021)
-    order = omega arith
-
 -- 2 ^ v in units of the format
 units_below : (v : ℕ) → 2 ^ v * one binary64 ≡ 2 ^ (v + low binary64)
 unfolding one
 units_below v = sym (pow-add 2 v (low binary64))
-
-place_is : (v : ℕ) → 2 ^ (v + low binary64 - prec binary64) ≡ half_place v
-unfolding half_place
-place_is v = ap (λ (z : ℕ). 2 ^ z) order
-  where
-    order : v + low binary64 - prec binary64 ≡ v + 1021
-    order = omega arith
 
 -- ---- a rounded result: p / c - n / c in units of the format, below 2 ^ v in size
 
@@ -170,19 +155,19 @@ module _ {grain v extra : ℕ} (errs : Errs grain v extra) where
       ≡ 2 * (over binary64 x * over binary64 y + under binary64 x * under binary64 y) + below w * one binary64) where
     pub mul_close : Close grain (mul binary64 x y) w bound extra
     mul_close =
-        let one_Unit = one_pos binary64 in
-        let within = result_within bound one_Unit (room v errs.digits small) (mul_result p q) (omega (arith, sized)) (omega (arith, sized)) in
-        let near = result_near v one_Unit (mul_result p q) within.real.is_finite
-        (under_power v bound _ _ (one binary64) one_Unit small (omega (arith, sized)))
-        (under_power v bound _ _ (one binary64) one_Unit small (omega (arith, sized))) in
+        let one_unit = one_pos binary64 in
+        let within = result_within bound one_unit (room v errs.digits small) (mul_result p q) (omega (arith, sized)) (omega (arith, sized)) in
+        let near = result_near v one_unit (mul_result p q) within.real.is_finite
+        (under_power v bound _ _ (one binary64) one_unit small (omega (arith, sized)))
+        (under_power v bound _ _ (one binary64) one_unit small (omega (arith, sized))) in
         let result = in_units within.real in
         let overs = ap (λ (k : ℕ). k * one binary64) result.over_is in
         let unders = ap (λ (k : ℕ). k * one binary64) result.under_is in
         let place = mul-le-mul_right (one binary64) errs.place in
         record {
           within = within;
-          high = le_of_mul-le-mul_right (omega (arith, near.high)) one_Unit;
-          low = le_of_mul-le-mul_right (omega (arith, near.low)) one_Unit;
+          high = le_of_mul-le-mul_right (omega (arith, near.high)) one_unit;
+          low = le_of_mul-le-mul_right (omega (arith, near.low)) one_unit;
         }
 
   -- a figure times a count

@@ -2,5 +2,6 @@
 pub mod Parts
 pub mod Scaled
 pub mod Halves
+pub mod HalfPlace
 mod Nearest
 pub mod Errors

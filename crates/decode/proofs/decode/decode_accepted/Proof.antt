@@ -108,8 +108,8 @@ slice_aggregate-put_candidates-4 c = search rules
 
 put_candidates-requires : tie.Need-put_candidates-requires
 put_candidates-requires c κs =
-    let at_Added = c.before.before.before.before.before.before.before.before.before in
-    let at-laid = laid at_Added in
+    let at_added = c.before.before.before.before.before.before.before.before.before in
+    let at-laid = laid at_added in
     let at-plan = planned at-laid in
     let at_clear = cleared at-plan in
     let start = entered at_clear in
@@ -117,7 +117,7 @@ put_candidates-requires c κs =
       record {
         laid = start.requires.0;
         planned = at-plan.plan_of-plan.ensures;
-        lent = both_prepared at-plan.plan_of-plan.ensures at-laid.lay_stage.ensures at_Added.lay_added.ensures;
+        lent = both_prepared at-plan.plan_of-plan.ensures at-laid.lay_stage.ensures at_added.lay_added.ensures;
         unused =
             unused_cleared start.args.best.now start.args.back.now n (values at_clear) (marks at_clear) start.requires.1.values
             start.requires.1.marks;
