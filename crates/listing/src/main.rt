@@ -12,5 +12,5 @@ const MOST_BYTES: usize = 65537;
 fn main(rt: HostRuntime) -> io::Result<()> {
     let mut record = [0u8; MOST_BYTES];
     let read = read_full(&mut rt.reader(), &mut record)?;
-    print_listing(&rt, &record[..read])
+    print_listing(&mut rt.stdout(), &record[..read])
 }

@@ -5,12 +5,20 @@
 mod lines;
 pub mod render;
 
+ghost use Rattle.std.specs.Prelude.{OnOk};
+ghost use Rattle.std.specs.Io.KnownBytes.{Appends};
+ghost use Rattle.printing.specs.Listing.{listing_of};
+
 use render::{LISTING_BYTES, render};
 use std::io;
+use std::io::Write;
 
-// Prints a record's listing. It has no contract, since none can speak of standard output: what it writes there is what `render` made.
-pub fn print_listing(rt: &impl Print, record: &[u8]) -> io::Result<()> {
+// Writes a record's listing, whole, or fails. A writer whose contents are known holds it then behind what it had; of standard output no
+// contract can speak.
+pub fn print_listing<W: Write>(out: &mut W, record: &[u8]) -> io::Result<()>
+    ensures { OnOk result (Appends (W.contents out.old) (W.contents out.new) (listing_of «record».now)) }
+{
     let mut text = [0u8; LISTING_BYTES];
     let count = render(record, &mut text);
-    rt.write_all(&text[..count])
+    out.write_all(&text[..count])
 }
