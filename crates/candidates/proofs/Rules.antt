@@ -13,8 +13,8 @@ use Rattle.record.specs.Conditions.{repeated, bad_units, bad_column}
 use Rattle.record.specs.Refusals.{candidate_rules}
 use Rattle.limits.specs.declared.edition.Limits.{Limits}
 use Rattle.record.specs.declared.layout.Layout.{Layout}
-use Rattle.record.specs.declared.refusal.Refusal.{Refusal}
-use Rattle.record.specs.declared.refusal.Refusal.TheVariants.{Twice, Units, Column}
+use Rattle.limits.specs.declared.refusal.Refusal.{Refusal}
+use Rattle.limits.specs.declared.refusal.Refusal.TheVariants.{Twice, Units, Column}
 
 -- what the rules of the candidates from i up to n find
 abbrev pub rest : Limits → List ℕ → ℕ → ℕ → Option Refusal

@@ -12,8 +12,8 @@ ghost use Rattle.record.specs.Inner.Checks.{answer};
 
 use fields::{column_at, id_at, units_at};
 use limits::edition::Limits;
+use limits::refusal::Refusal;
 use record::layout::Layout;
-use record::refusal::{Checked, Refusal};
 
 fn repeated(bytes: &[u8], limits: Limits, at: Layout, i: usize) -> bool
     requires candidates_read { CandidatesRead limits (length bytes.now) at }
@@ -21,12 +21,10 @@ fn repeated(bytes: &[u8], limits: Limits, at: Layout, i: usize) -> bool
     ensures { result ≡ repeated limits bytes.now at i }
 {
     let id = id_at(bytes, limits, at, i);
-    let mut j = 0;
-    while j < i {
+    for j in 0..i {
         if id_at(bytes, limits, at, j) == id {
             return true;
         }
-        j += 1;
     }
     false
 }
@@ -48,35 +46,30 @@ fn bad_column(bytes: &[u8], limits: Limits, at: Layout, i: usize) -> bool
 {
     let units = units_at(bytes, limits, at, i);
     let columns = at.scores.count;
-    let mut j = 0;
-    while j < units {
+    for j in 0..units {
         if column_at(bytes, limits, at, i, j) >= columns {
             return true;
         }
-        j += 1;
     }
     false
 }
 
 // The refusal of the first candidate that has one.
-pub fn check_candidates(bytes: &[u8], limits: Limits, at: Layout) -> Checked
+pub fn check_candidates(bytes: &[u8], limits: Limits, at: Layout) -> Result<(), Refusal>
     requires candidates_read { CandidatesRead limits (length bytes.now) at }
     requires at_value { at ≡ layout_of bytes.now }
-    ensures { result ≡ answer (first_of (candidate_rules limits bytes.now 0 at.candidates.count)) at }
+    ensures { result ≡ answer (first_of (candidate_rules limits bytes.now 0 at.candidates.count)) tt }
 {
-    let count = at.candidates.count;
-    let mut i = 0;
-    while i < count {
+    for i in 0..at.candidates.count {
         if repeated(bytes, limits, at, i) {
-            return Checked::Refused(Refusal::Twice);
+            return Err(Refusal::Twice);
         }
         if bad_units(bytes, limits, at, i) {
-            return Checked::Refused(Refusal::Units);
+            return Err(Refusal::Units);
         }
         if bad_column(bytes, limits, at, i) {
-            return Checked::Refused(Refusal::Column);
+            return Err(Refusal::Column);
         }
-        i += 1;
     }
-    Checked::Accepted(at)
+    Ok(())
 }

@@ -14,64 +14,62 @@ ghost use Rattle.record.specs.Inner.Checks.{answer, checked_of, checked_with};
 use candidates::check_candidates;
 use figures::bad_cost;
 use limits::edition::{Limits, limits_of};
+use limits::refusal::Refusal;
 use record::format::TRAILER_BYTES;
 use record::layout::Layout;
-use record::refusal::{Checked, Refusal};
 use sections::layout::laid_out;
 use sections::size::{other_edition, overreaching, oversized, stub};
 use sections::trailer::trailer_of;
 use tracks::bad_track;
 
 // Refusals 1 to 4, by the length and the trailer; accepted so far with the layout.
-fn check_trailer(bytes: &[u8]) -> Checked
+fn check_trailer(bytes: &[u8]) -> Result<Layout, Refusal>
     ensures { result ≡ answer (first_of (trailer_rules (limits_of bytes.now) bytes.now)) (layout_of bytes.now) }
 {
     if stub(bytes) {
-        return Checked::Refused(Refusal::Stub);
+        return Err(Refusal::Stub);
     }
     let trailer = trailer_of(bytes);
     let limits = limits_of(trailer.edition);
     if other_edition(limits, trailer) {
-        return Checked::Refused(Refusal::Edition);
+        return Err(Refusal::Edition);
     }
     if oversized(limits, trailer) {
-        return Checked::Refused(Refusal::Size);
+        return Err(Refusal::Size);
     }
     let end = bytes.len() - TRAILER_BYTES;
     if overreaching(limits, end, trailer) {
-        return Checked::Refused(Refusal::Reach);
+        return Err(Refusal::Reach);
     }
-    Checked::Accepted(laid_out(end, trailer))
+    Ok(laid_out(end, trailer))
 }
 
 // Refusals 5 to 10, by what the sections hold.
-fn check_contents(bytes: &[u8], at: Layout) -> Checked
+fn check_contents(bytes: &[u8], at: Layout) -> Result<(), Refusal>
     requires at_value { at ≡ layout_of bytes.now }
     requires within { Within (length bytes.now) at }
     requires candidates_read { CandidatesRead (limits_at at) (length bytes.now) at }
-    ensures { result ≡ answer (first_of (content_rules bytes.now ++ candidate_rules (limits_at at) bytes.now 0 at.candidates.count)) at }
+    ensures { result ≡ answer (first_of (content_rules bytes.now ++ candidate_rules (limits_at at) bytes.now 0 at.candidates.count)) tt }
 {
     if bad_track(bytes, at) {
-        return Checked::Refused(Refusal::Track);
+        return Err(Refusal::Track);
     }
     if bad_cost(bytes, at) {
-        return Checked::Refused(Refusal::Cost);
+        return Err(Refusal::Cost);
     }
     if at.candidates.count == 0 {
-        return Checked::Refused(Refusal::Bare);
+        return Err(Refusal::Bare);
     }
     check_candidates(bytes, limits_of(at.edition), at)
 }
 
 // Refusals 1 to 10, which are the record's own.
-pub fn check(bytes: &[u8]) -> Checked
+pub fn check(bytes: &[u8]) -> Result<Layout, Refusal>
     ensures { result ≡ checked_of bytes.now }
 {
-    let checked = check_trailer(bytes);
-    match checked {
-        Checked::Refused(refusal) => Checked::Refused(refusal),
-        Checked::Accepted(at) => check_contents(bytes, at),
-    }
+    let at = check_trailer(bytes)?;
+    check_contents(bytes, at)?;
+    Ok(at)
 }
 
 fn short_desk(limits: Limits, candidates: usize, best: usize, back: usize, out: usize) -> bool
@@ -85,18 +83,12 @@ fn short_desk(limits: Limits, candidates: usize, best: usize, back: usize, out: 
 }
 
 // Refusal 11 on top, for a call that lends work areas of `best` and `back` cells and an output of `out` words.
-pub fn check_areas(bytes: &[u8], best: usize, back: usize, out: usize) -> Checked
+pub fn check_areas(bytes: &[u8], best: usize, back: usize, out: usize) -> Result<Layout, Refusal>
     ensures { result ≡ checked_with bytes.now best back out }
 {
-    let checked = check(bytes);
-    match checked {
-        Checked::Refused(refusal) => Checked::Refused(refusal),
-        Checked::Accepted(at) => {
-            if short_desk(limits_of(at.edition), at.candidates.count, best, back, out) {
-                Checked::Refused(Refusal::Desk)
-            } else {
-                Checked::Accepted(at)
-            }
-        }
+    let at = check(bytes)?;
+    if short_desk(limits_of(at.edition), at.candidates.count, best, back, out) {
+        return Err(Refusal::Desk);
     }
+    Ok(at)
 }

@@ -1,68 +1,60 @@
 -- Reporting one unit after another.
-use Prim.Native.Nat.{ℕ, zero, suc, ◌+◌, ◌-◌, ◌≤◌, ◌<◌, max}
-use mathlib.Core.Path.{◌≡◌, refl, sym, ap, ap₂, ◌∙◌}
-use mathlib.Core.Bool.{Bool, true, false, cond}
-use mathlib.Core.List.{List, [], ◌∷◌, ◌++◌, map, append-nil, append_assoc}
-use native.Mathlib.Omega.{arith}
-use native.Mathlib.Numerals.{add-one}
-use native.Mathlib.Nat.{sub-zero}
-use lib.Dec.{eqb}
-use lib.ListN.{length, get_or, take, set}
-use lib.Seq.{take-suc-set, take_all}
-use Rattle.limits.specs.Common.{absent}
+use Rattle.std.proofs.Common.{◌≡◌, ℕ, ◌<◌, ◌+◌, ◌≤◌, List, [], ◌∷◌, ◌++◌, map, take, drop, set, get_or, slice_get, length, refl, sym, ap, ap₂, ◌∙◌, Option, Some, None, arith, append_assoc, append-nil}
+use Rattle.std.proofs.Math.ListN.{get_or-map}
+use Rattle.std.specs.Option.{option_map_or}
+use Rattle.std.proofs.lemmas.List.{map-set, set-get_or, take_more_set, drop-set-lt, at_drop_more, at_drop_all, map_push, take_all}
 use Rattle.frames.specs.declared.span.Span.{Span}
-use Rattle.clip.specs.Clip.{Placed, anchored, unanchored, nearest, clipped, report_after, given, reported}
-use Rattle.clip.specs.Inner.Units.{placed_range, report_at}
-use Rattle.clip.proofs.Units.{units_next, units_end, units_past}
+use Rattle.frames.specs.declared.unit.PlacedUnit.{PlacedUnit}
+use Rattle.clip.specs.Clip.{Placed, given, report, report_after, reported}
+use Rattle.clip.specs.Inner.Units.{placed_as, placed}
 
-pub clip_is : (path : Span) (low next high start end : ℕ) → high ≡ max next low → start ≡ nearest low high path.start → end ≡ nearest start high path.end
-    → record { start = start; end = end } ≡ clipped path low next
-clip_is path low next high start end eh es ee =
-    let es' : start ≡ nearest low (max next low) path.start = es ∙ ap (λ (h : ℕ). nearest low h path.start) eh in
-    ap₂ (λ (a b : ℕ). record { start = a; end = b }) es' (ee ∙ ap₂ (λ (s h : ℕ). nearest s h path.end) es' eh)
-
--- The spans so far and those to come, of which one figure is looked at: one more unit reported changes nothing.
-pub figure_step : (f : Span → ℕ) (l starts ends rows : List ℕ) (s low : ℕ) (span : Span) → span ≡ report_at low starts ends rows s → s < length rows → s < length l
-    → take (s + 1) (set l s (f span))
-    ++ map f (report_after span.end
-    (placed_range (set starts s span.start) (set ends s span.end) rows (s + 1) (length rows - (s + 1))))
-    ≡ take s l ++ map f (report_after low (placed_range starts ends rows s (length rows - s)))
-unfolding report_after
-figure_step f l starts ends rows s low span e h k =
-    let later = placed_range starts ends rows (s + 1) (length rows - (s + 1)) in
-    ap₂ ◌++◌ (ap (λ (n : ℕ). take n (set l s (f span))) (add-one s) ∙ take-suc-set l s (f span) k)
-    (ap (λ (units : List Placed). map f (report_after span.end units)) (units_past starts ends rows span.start span.end s (s + 1) (length rows - (s + 1)) (omega arith)))
-    ∙ append_assoc (take s l) (f span ∷ []) (map f (report_after span.end later))
-    ∙ ap (λ (x : Span). take s l ++ (f x ∷ map f (report_after x.end later))) e
-    ∙ ap (λ (units : List Placed). take s l ++ map f (report_after low units)) (sym (units_next starts ends rows s (length rows) h))
-
--- after the last unit nothing is to come
-pub figure_end : (f : Span → ℕ) (l starts ends rows : List ℕ) (s low : ℕ) → length rows ≤ s → length l ≤ s
-    → l ≡ take s l ++ map f (report_after low (placed_range starts ends rows s (length rows - s)))
-unfolding report_after
-figure_end f l starts ends rows s low h k =
-    sym (take_all s l k) ∙ sym (append-nil (take s l))
-    ∙ ap (λ (units : List Placed). take s l ++ map f (report_after low units)) (sym (units_end starts ends rows s (length rows) h))
-
-given_start : (b : Bool) (span : Span) → (given (cond b (unanchored span) (anchored span))).start ≡ span.start
-given_start true span = refl
-given_start false span = refl
+given_start : (row : Option ℕ) (span : Span) → (given (placed_as row span)).start ≡ span.start
+given_start None span = refl
+given_start (Some row) span = refl
 
 -- the first unit is reported from its own start on
-pub reported_from : (starts ends rows : List ℕ) (n : ℕ)
-    → reported (placed_range starts ends rows 0 n) ≡ report_after (get_or starts 0 0) (placed_range starts ends rows 0 (n - 0))
-unfolding reported placed_range
-reported_from starts ends rows zero = refl
-reported_from starts ends rows (suc n) =
-    ap (λ (low : ℕ). report_after low (placed_range starts ends rows 0 (suc n)))
-    (given_start (eqb (get_or rows 0 0) absent) (record { start = get_or starts 0 0; end = get_or ends 0 0 }))
-    ∙ ap (λ (m : ℕ). report_after (get_or starts 0 0) (placed_range starts ends rows 0 m)) (sym (sub-zero (suc n)))
+pub reported_first : (units : List PlacedUnit)
+    → report_after (option_map_or (λ unit. unit.span.start) (slice_get units 0) 0) (map placed units) ≡ reported (map placed units)
+unfolding reported
+reported_first [] = refl
+reported_first (unit ∷ units) =
+    ap (λ (low : ℕ). report_after low (map placed (unit ∷ units))) (sym (given_start unit.row unit.span))
 
-pub reported_none : (f : Span → ℕ) (l starts ends rows : List ℕ)
-    → length rows ≡ 0 → length l ≡ 0 → l ≡ map f (reported (placed_range starts ends rows 0 (length rows)))
-unfolding reported placed_range
-reported_none f [] starts ends rows h k = sym (ap (λ (n : ℕ). map f (reported (placed_range starts ends rows 0 n))) h)
-reported_none f (x ∷ l) starts ends rows h k = absurd (some k)
-  where
-    some : suc (length l) ≡ 0 → ⊥
-    some e = omega arith
+abbrev spans_of : List PlacedUnit → List Span
+spans_of = map (λ unit. unit.span)
+
+-- The spans so far and those to come: one more unit reported changes nothing.
+pub reported_more : (units : List PlacedUnit) (s low : ℕ) (d : PlacedUnit) (span : Span) → s < length units
+    → span ≡ report low (placed (get_or units s d)) (map placed (drop (s + 1) units))
+    → map (λ unit. unit.span) (take (s + 1) (set units s (record { span = span; row = (get_or units s d).row })))
+    ++ report_after span.end (map placed (drop (s + 1) (set units s (record { span = span; row = (get_or units s d).row }))))
+    ≡ map (λ unit. unit.span) (take s units) ++ report_after low (map placed (drop s units))
+unfolding report_after
+reported_more units s low d span below is =
+    let unit : PlacedUnit = record { span = span; row = (get_or units s d).row } in
+    let done : spans_of (take (s + 1) (set units s unit)) ≡ spans_of (take s units) ++ (span ∷ []) =
+    ap spans_of (take_more_set units s unit below) ∙ map_push (λ u. u.span) (take s units) unit in
+    let past : drop (s + 1) (set units s unit) ≡ drop (s + 1) units = drop-set-lt (s + 1) units s unit (omega arith) in
+    let later : List Placed = map placed (drop (s + 1) units) in
+    ap₂ (λ (x : List Span) (y : List PlacedUnit). x ++ report_after span.end (map placed y)) done past
+    ∙ append_assoc (spans_of (take s units)) (span ∷ []) (report_after span.end later)
+    ∙ ap (λ (x : Span). spans_of (take s units) ++ (x ∷ report_after x.end later)) is
+    ∙ ap (λ (x : List Span). spans_of (take s units) ++ x) (sym (at_drop_more (λ us. report_after low (map placed us)) units s d below))
+
+-- after the last unit nothing is to come
+pub reported_all : (units : List PlacedUnit) (s low : ℕ) → length units ≤ s
+    → map (λ unit. unit.span) units ≡ map (λ unit. unit.span) (take s units) ++ report_after low (map placed (drop s units))
+unfolding report_after
+reported_all units s low all =
+    sym (append-nil (spans_of units))
+    ∙ ap₂ (λ (x : List PlacedUnit) (y : List Span). spans_of x ++ y) (sym (take_all s units all))
+    (sym (at_drop_all (λ us. report_after low (map placed us)) units s all))
+
+-- another span in place of a unit's keeps every row
+pub rows_kept : (units : List PlacedUnit) (s : ℕ) (d : PlacedUnit) (span : Span)
+    → map (λ unit. unit.row) (set units s (record { span = span; row = (get_or units s d).row })) ≡ map (λ unit. unit.row) units
+rows_kept units s d span =
+    let rows : List (Option ℕ) = map (λ unit. unit.row) units in
+    map-set (λ unit. unit.row) units s (record { span = span; row = (get_or units s d).row })
+    ∙ ap (λ (row : Option ℕ). set rows s row) (sym (get_or-map (λ unit. unit.row) units s d))
+    ∙ set-get_or rows s d.row

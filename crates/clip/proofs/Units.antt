@@ -1,57 +1,34 @@
--- The units of arrays, one at a time.
-use Prim.Native.Nat.{ℕ, zero, suc, ◌+◌, ◌-◌, ◌≤◌, ◌<◌}
-use mathlib.Core.Path.{◌≡◌, refl, ap, ap₂}
-use mathlib.Core.Logic.{◌≢◌}
-use mathlib.Core.Bool.{Bool, cond}
-use mathlib.Core.List.{List, [], ◌∷◌}
-use native.Mathlib.Omega.{arith}
-use lib.Dec.{eqb}
-use lib.ListN.{get_or, set}
-use lib.Seq.{get_or-set_other}
-use borrow.Author.Tests.{eq-eqb, ne_eqb}
-use Rattle.limits.specs.Common.{absent}
-use Rattle.clip.specs.Clip.{anchored, unanchored}
-use Rattle.clip.specs.Inner.Units.{placed_at, placed_range}
+-- What the rule says of units as the code holds them.
+use Rattle.std.proofs.Common.{◌≡◌, ℕ, cond, List, [], ◌∷◌, map, refl, sym, ap, ◌∙◌, find, is_some, Option, Some, None, Bor}
+use Rattle.std.specs.Option.{option_map, option_map_or}
+use Rattle.frames.specs.declared.unit.PlacedUnit.{PlacedUnit}
+use Rattle.clip.specs.Clip.{next_start}
+use Rattle.clip.specs.Inner.Units.{placed_as, placed}
 
-module _ (starts ends rows : List ℕ) where
-  pub units_next : (i n : ℕ) → i < n
-      → placed_range starts ends rows i (n - i) ≡ placed_at starts ends rows i ∷ placed_range starts ends rows (i + 1) (n - (i + 1))
-  unfolding placed_range
-  units_next i n h =
-      let e : n - i ≡ suc (n - (i + 1)) = omega arith in
-      ap (placed_range starts ends rows i) e
+module _ (otherwise : ℕ) where
+  first_start_at : (unit : PlacedUnit) (units : List PlacedUnit) (row : Option ℕ)
+      → next_start otherwise (map placed units) ≡ option_map_or (λ u. u.span.start) (find (λ u. is_some u.row) units) otherwise
+      → next_start otherwise (placed_as row unit.span ∷ map placed units)
+      ≡ option_map_or (λ u. u.span.start) (cond (is_some row) (Some unit) (find (λ u. is_some u.row) units)) otherwise
+  unfolding next_start
+  first_start_at unit units None later = later
+  first_start_at unit units (Some row) later = refl
 
-  pub units_end : (i n : ℕ) → n ≤ i → placed_range starts ends rows i (n - i) ≡ []
-  unfolding placed_range
-  units_end i n h =
-      let e : n - i ≡ 0 = omega arith in
-      ap (placed_range starts ends rows i) e
+  start_found : (units : List PlacedUnit)
+      → next_start otherwise (map placed units) ≡ option_map_or (λ u. u.span.start) (find (λ u. is_some u.row) units) otherwise
+  unfolding next_start
+  start_found [] = refl
+  start_found (unit ∷ units) = first_start_at unit units unit.row (start_found units)
 
-  pub has_anchor : (i : ℕ) → (get_or rows i 0 ≡ absent → ⊥)
-      → placed_at starts ends rows i ≡ anchored (record { start = get_or starts i 0; end = get_or ends i 0 })
-  has_anchor i h =
-      ap (λ (b : Bool).
-      cond b (unanchored (record { start = get_or starts i 0; end = get_or ends i 0 })) (anchored (record { start = get_or starts i 0; end = get_or ends i 0 })))
-      (ne_eqb (get_or rows i 0) absent h)
+  start_of : (found : Option (Bor PlacedUnit))
+      → option_map_or (λ u. u.now.span.start) found otherwise
+      ≡ option_map_or (λ u. u.span.start) (option_map (λ u. u.now) found) otherwise
+  start_of None = refl
+  start_of (Some unit) = refl
 
-  pub has_none : (i : ℕ) → get_or rows i 0 ≡ absent
-      → placed_at starts ends rows i ≡ unanchored (record { start = get_or starts i 0; end = get_or ends i 0 })
-  has_none i h =
-      ap (λ (b : Bool).
-      cond b (unanchored (record { start = get_or starts i 0; end = get_or ends i 0 })) (anchored (record { start = get_or starts i 0; end = get_or ends i 0 })))
-      (eq-eqb (get_or rows i 0) absent h)
-
--- what is put at a place does not change the units after it
-unit_past : (starts ends rows : List ℕ) (start end at i : ℕ) → i ≢ at
-    → placed_at (set starts at start) (set ends at end) rows i ≡ placed_at starts ends rows i
-unit_past starts ends rows start end at i h =
-    ap₂ (λ (a b : ℕ). cond (eqb (get_or rows i 0) absent) (unanchored (record { start = a; end = b }))
-    (anchored (record { start = a; end = b })))
-    (get_or-set_other starts at i start 0 h) (get_or-set_other ends at i end 0 h)
-
-pub units_past : (starts ends rows : List ℕ) (start end at i n : ℕ) → at < i
-    → placed_range (set starts at start) (set ends at end) rows i n ≡ placed_range starts ends rows i n
-unfolding placed_range
-units_past starts ends rows start end at i zero h = refl
-units_past starts ends rows start end at i (suc n) h =
-    ap₂ ◌∷◌ (unit_past starts ends rows start end at i (omega arith)) (units_past starts ends rows start end at (i + 1) n (omega arith))
+  -- the first unit with a row is the one that the gap ends at
+  pub next_start_is : (units : List PlacedUnit) (found : Option (Bor PlacedUnit))
+      → option_map (λ u. u.now) found ≡ find (λ u. is_some u.row) units
+      → option_map_or (λ u. u.now.span.start) found otherwise ≡ next_start otherwise (map placed units)
+  next_start_is units found e =
+      start_of found ∙ ap (λ (f : Option PlacedUnit). option_map_or (λ u. u.span.start) f otherwise) e ∙ sym (start_found units)

@@ -1,8 +1,7 @@
 -- From one pass to the answer of the search through them. Assumes nothing.
-use mathlib.Core.Bool.{true, false}
-use mathlib.Core.Path.{◌≡◌, refl, ap}
+use Rattle.std.specs.Prelude.{Option, Some, None, Ok, Err, IfSome}
+use mathlib.Core.Path.{◌≡◌, refl}
 use Prim.Native.Nat.{ℕ}
-use native.Mathlib.Omega.{arith}
 use Rattle.paths.specs.declared.passes.Pass.{Pass}
 use Rattle.paths.specs.Problem.{Problem}
 use Rattle.paths.specs.Path.{Path as Route, sum}
@@ -12,39 +11,36 @@ use Rattle.paths.proofs.Cells.{held_same}
 use Rattle.paths.specs.Demand.{none, Answer as Demanded}
 use Rattle.paths.specs.Search.{or_else}
 use Rattle.rows.specs.Traced.{UnitsAre}
-use Rattle.closed.specs.declared.path.Found.{Found}
-use Rattle.closed.specs.declared.path.Found.TheVariants.{Sum, NoPath}
 use Rattle.closed.specs.declared.path.Path.{Path}
-use Rattle.closed.specs.declared.search.Answer.TheVariants.{Found as FoundIn}
-use Rattle.closed.specs.declared.search.Searched.{Searched}
+use Rattle.closed.specs.declared.search.Found.{Found}
+use Rattle.closed.specs.declared.search.Missed.{Missed}
 use Rattle.closed.specs.Reported.{sum_found, units_in, Reports}
-use Rattle.closed.specs.Answered.{Says, is_found, answer_in}
+use Rattle.closed.specs.Answered.{Says, answer_in}
 
 -- a path reported is that of the pass, and "no path" is said where there is none
-module _ (pass : Pass) (q : Problem) (k : ℕ) (path : Path) (reports : Reports q k path) where
-  pub says_path : Says (or_else pass q (chosen_path q k) none) (record { answer = answer_in pass path.found; units = path.units })
+module _ (pass : Pass) (q : Problem) (k : ℕ) (path : Option Path) (reports : Reports q k path) where
+  pub says_path : Says (or_else pass q (chosen_path q k) none) (answer_in pass path)
   unfolding carry
-  says_path = go path.found (chosen_path q k) reports.found reports.units
+  says_path = go path (chosen_path q k) reports.found reports.units
     where
       go :
-          (f : Found) (c : Cell Route) → sum_found f ≡ carry (sum q) c → UnitsAre path.units (units_in c) →
-          Says (or_else pass q c none) (record { answer = answer_in pass f; units = path.units })
-      go (Sum total) (held route) is units = (ap (FoundIn pass) (held_same is), units)
-      go NoPath empty is units = (refl, units)
-      go (Sum total) empty is units = absurd (let z : ◌≡◌ {A = ℕ} 0 1 = cc in omega arith)
-      go NoPath (held route) is units = absurd (let z : ◌≡◌ {A = ℕ} 0 1 = cc in omega arith)
+          (f : Option Path) (c : Cell Route) → sum_found f ≡ carry (sum q) c →
+          IfSome f (λ (here : Path). UnitsAre here.units (units_in c)) →
+          Says (or_else pass q c none) (answer_in pass f)
+      go (Some here) (held route) is units = (refl, held_same is, units)
+      go None empty is units = refl
+      go (Some here) empty is units = cc
+      go None (held route) is units = cc
 
 -- a pass that finds a path is the answer, whatever the later passes would give; one that finds none leaves it to them
 pub says_first :
-    (pass : Pass) (q : Problem) (c : Cell Route) (later : Demanded) (r : Searched) → Says (or_else pass q c none) r →
-    is_found r.answer ≡ true →
-    Says (or_else pass q c later) r
-says_first pass q empty later r says e = absurd (let z : ◌≡◌ {A = ℕ} 0 1 = cc (ap is_found says.0) in omega arith)
-says_first pass q (held route) later r says e = says
+    (pass : Pass) (q : Problem) (c : Cell Route) (later : Demanded) (here : Found) → Says (or_else pass q c none) (Ok here) →
+    Says (or_else pass q c later) (Ok here)
+says_first pass q empty later here says = absurd (cc says)
+says_first pass q (held route) later here says = says
 
 pub leaves_later :
-    (pass : Pass) (q : Problem) (c : Cell Route) (later : Demanded) (r : Searched) → Says (or_else pass q c none) r →
-    is_found r.answer ≡ false →
+    (pass : Pass) (q : Problem) (c : Cell Route) (later : Demanded) (missed : Missed) → Says (or_else pass q c none) (Err missed) →
     or_else pass q c later ≡ later
-leaves_later pass q empty later r says e = refl
-leaves_later pass q (held route) later r says e = absurd (let z : ◌≡◌ {A = ℕ} 0 1 = cc (ap is_found says.0) in omega arith)
+leaves_later pass q empty later missed says = refl
+leaves_later pass q (held route) later missed says = absurd says

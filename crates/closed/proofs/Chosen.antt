@@ -1,6 +1,7 @@
 -- Filled rows hold the path chosen: the end over the last row is its end, and the marks lead back to its units. Assumes nothing.
 use mathlib.Core.Bool.{Bool, true, false, cond}
-use mathlib.Core.List.{List, []}
+use mathlib.Core.List.{List}
+use Rattle.std.specs.Prelude.{Some, None}
 use mathlib.Core.Path.{◌≡◌, refl, sym, ap, subst, ◌∙◌}
 use Prim.Native.Nat.{ℕ, zero, suc, ◌*◌, ◌<◌}
 use native.Mathlib.Nat.{le_refl}
@@ -14,11 +15,10 @@ use Rattle.paths.specs.Inner.Marks.{Marked, marks, mark_at, End as Ended, ended,
 use Rattle.paths.proofs.Cells.{held_same}
 use Rattle.paths.proofs.Marks.{Kept, kept_begin, kept_gap, kept_unit, rows_kept, end_chosen, marks_trace}
 use Rattle.rows.specs.declared.end.End.{End}
-use Rattle.rows.specs.declared.trace.Units.{Units}
+use Rattle.rows.specs.declared.trace.Bounds.{Bounds as HeldBounds}
 use Rattle.rows.specs.Rows.{Holds, unreached, reached}
 use Rattle.rows.specs.Ends.{ended_by, StopsOf, EndOf}
 use Rattle.rows.specs.Traced.{mark_in, Traceable, UnitsAre}
-use Rattle.closed.specs.declared.path.Found.TheVariants.{Sum, NoPath}
 use Rattle.closed.specs.Reported.{Reports, AllRows, LastReached}
 use Rattle.closed.proofs.Parts.{part, part_holds}
 
@@ -107,8 +107,8 @@ module _ (q : Problem) (k n : ℕ) (stop : List Float) (best : List Float) (back
         )
 
     pub reports_chosen :
-        (units : Units) → ((found : List Bounds) → Traces (mark_in back n) k end.boundary found → UnitsAre units found) →
-        Reports q k (record { found = Sum end.sum; units = units })
+        (units : List HeldBounds) → ((found : List Bounds) → Traces (mark_in back n) k end.boundary found → UnitsAre units found) →
+        Reports q k (Some (record { sum = end.sum; units = units }))
     unfolding carry
     reports_chosen units led =
         let there = chosen_there in
@@ -122,7 +122,6 @@ module _ (q : Problem) (k n : ℕ) (stop : List Float) (best : List Float) (back
         }
 
 -- where the last row reaches no boundary there is no path
-pub reports_none : {q : Problem} {k : ℕ} (units : Units) → chosen_path q k ≡ empty → UnitsAre units []
-    → Reports q k (record { found = NoPath; units = units })
+pub reports_none : {q : Problem} {k : ℕ} → chosen_path q k ≡ empty → Reports q k None
 unfolding carry
-reports_none units none are = record { found = rw none; units = rw none are }
+reports_none none = record { found = rw none; units = tt }

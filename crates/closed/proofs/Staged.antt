@@ -15,7 +15,7 @@ use Rattle.paths.specs.declared.passes.Pass.{Pass}
 use Rattle.paths.specs.declared.passes.Pass.TheVariants.{NucleiStrict, CountStrict, CountRelaxed, NucleiRelaxed}
 use Rattle.paths.specs.Inner.Order.{Increasing}
 use Rattle.paths.specs.Anchors.{kept}
-use Rattle.paths.specs.Passes.{pass_stage, pass_strictness, pass_problem, has_nucleus, non_empty}
+use Rattle.paths.specs.Passes.{of_pass, pass_stage, pass_strictness, pass_problem, has_nucleus, non_empty}
 use Rattle.paths.proofs.Anchors.{kept_in_le}
 use Rattle.limits.specs.Inner.Moderate.{Moderate}
 use Rattle.limits.specs.declared.edition.Limits.{Limits}
@@ -31,7 +31,7 @@ use Rattle.limits.specs.Capacity.{most_boundaries}
 use Rattle.stages.specs.Tables.{Tabled, tables_in}
 use Rattle.rows.specs.Reads.{score_rows}
 use Rattle.closed.specs.Asked.{CandidateIn, columns_of, asked_of, Agrees, cells_for, Unused, SearchInputs}
-use Rattle.closed.specs.Answered.{pass_section, StageLists}
+use Rattle.closed.specs.Answered.{StageLists}
 use Rattle.closed.proofs.Bridge.{agrees, readable}
 
 -- what the tables of a stage are read by
@@ -66,7 +66,7 @@ added_count {bytes} laid =
     length_listed (frame_at bytes (layout_of bytes).added_boundaries) (layout_of bytes).added_boundaries.count ∙ ap (λ (l : Layout). l.added_boundaries.count) (sym laid.layout)
 
 pub pass_count : {bytes : List ℕ} {at : Layout} → Laid bytes at → (pass : Pass)
-    → length (pass_stage (phrase_of bytes) pass).boundaries ≡ (pass_section at pass).count
+    → length (pass_stage (phrase_of bytes) pass).boundaries ≡ of_pass at.boundaries.count at.added_boundaries.count pass
 pass_count laid NucleiStrict = boundary_count laid
 pass_count laid CountStrict = added_count laid
 pass_count laid CountRelaxed = added_count laid
@@ -98,7 +98,7 @@ module _ {bytes : List ℕ} {at : Layout} {costs : Costs} {candidate : ℕ} (giv
 
   module _ (pass : Pass) {strictness : Strictness} {n : ℕ} {words : List ℕ} {figures : List Float}
       (lent : StageLists (phrase_of bytes) (pass_stage (phrase_of bytes) pass) words figures)
-      (held : strictness ≡ pass_strictness pass) (counted : n ≡ (pass_section at pass).count) where
+      (held : strictness ≡ pass_strictness pass) (counted : n ≡ of_pass at.boundaries.count at.added_boundaries.count pass) where
     abbrev stage : Stage
     stage = pass_stage (phrase_of bytes) pass
 

@@ -1,5 +1,5 @@
 -- What one search is asked: a candidate of an accepted record, over the tables of a stage, with work areas that nothing is left in.
-use Rattle.std.specs.Prelude.{ℕ, suc, ◌*◌, ◌≤◌, ◌<◌, List, ◌≡◌, Float, length, get_or}
+use Rattle.std.specs.Prelude.{ℕ, suc, ◌*◌, ◌≤◌, ◌<◌, List, ◌≡◌, Float, Option, length, get_or}
 use Rattle.phrase.specs.Phrase.{Phrase}
 use Rattle.phrase.specs.declared.costs.Costs.{Costs}
 use Rattle.paths.specs.declared.passes.Strictness.{Strictness}
@@ -76,5 +76,5 @@ pub record RowsFilled (asked : Asked) (best : List Float) (back : List ℕ) (bes
   pub rest : (at : ℕ) → cells_for asked ≤ at → Same best back best' back' at
 
 -- "The path chosen, for a pass and a count", in every problem that the tables are those of, or that there is none
-abbrev pub ReportsFor : Asked → Path → Type 0
+abbrev pub ReportsFor : Asked → Option Path → Type 0
 ReportsFor asked path = (q : Problem) → Agrees asked q → Reports q (length asked.columns) path

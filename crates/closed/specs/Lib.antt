@@ -4,4 +4,5 @@ pub mod Filled
 pub mod Searched
 pub mod Reported
 pub mod Asked
+pub mod Tasks
 pub mod Answered

@@ -6,3 +6,4 @@ pub mod best_path;
 pub mod fill;
 pub mod path;
 pub mod search;
+pub mod task;

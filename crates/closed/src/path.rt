@@ -1,40 +1,23 @@
 // The path that filled rows hold.
 
-ghost use Rattle.std.specs.Prelude.{[], ◌++◌, ◌≡◌, ◌+◌, ◌*◌, ◌≤◌, ◌<◌, ◌^◌, suc, length, drop, replicate};
+ghost use Rattle.std.specs.Prelude.{◌++◌, ◌≡◌, ◌+◌, ◌*◌, ◌≤◌, ◌<◌, ◌^◌, suc, length, drop, replicate};
 ghost use Rattle.std.specs.Float.{binary64};
 ghost use Rattle.std.specs.Float.Ieee.{of_bits};
 ghost use Rattle.limits.specs.Capacity.{most_units};
 ghost use Rattle.paths.specs.Problem.{Problem};
 ghost use Rattle.closed.specs.Reported.{AllRows, LastReached, Reports, SomeRows};
 ghost use Rattle.rows.specs.Ends.{StopsOf};
-ghost use Rattle.rows.specs.Traced.{UnitsAre};
 
 use limits::capacity::MOST_UNITS;
 use rows::clear::clear;
 use rows::end::best_end;
-use rows::trace::{Units, trace};
+use rows::trace::{Bounds, trace};
 
-#[derive(Clone, Copy)]
-pub enum Found {
-    Sum(f64),
-    NoPath,
-}
-
-// The sum of the path chosen and the boundaries of its units, or that there is none.
+// The path chosen: its sum, and the boundaries of its units in path order, with 0 from the unit count on.
 #[derive(Clone, Copy)]
 pub struct Path {
-    pub found: Found,
-    pub units: Units,
-}
-
-// The units of no path.
-pub(crate) fn no_units() -> Units
-    ensures { UnitsAre result [] }
-{
-    Units {
-        first: [0u32; MOST_UNITS],
-        last: [0u32; MOST_UNITS],
-    }
+    pub sum: f64,
+    pub units: [Bounds; MOST_UNITS],
 }
 
 // The path chosen, once the row of every count up to k is filled; the last reaches its boundaries from `since` on. Used cells end as zero
@@ -51,7 +34,7 @@ pub fn finish(
         × (n ≤ length stop.now) × (since < n) }
     requires some_rows { SomeRows stop.now best.old back.old n k since }
     ensures reports { (q : Problem) → StopsOf q stop.now n → AllRows q best.old back.old n k
-        → LastReached q n k since → Reports q k result }
+        → LastReached q n k since → Reports q k (Some result) }
     ensures best_after { best.new ≡ replicate (suc k * n) (of_bits binary64 0) ++ drop (suc k * n) best.old }
     ensures back_after { back.new ≡ replicate (suc k * n) 0 ++ drop (suc k * n) back.old }
 {
@@ -60,6 +43,8 @@ pub fn finish(
     let boundary = end.boundary;
     let units = trace(back, n, k, boundary);
     clear(best, back, row + n);
-    let found = Found::Sum(end.sum);
-    Path { found, units }
+    Path {
+        sum: end.sum,
+        units,
+    }
 }

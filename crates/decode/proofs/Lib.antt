@@ -1,7 +1,5 @@
 -- From what the code's arrays hold to what decoding promises.
 mod Placing
-mod Fronts
-mod HeldUnits
 mod Reporting
 mod Plans
 mod Said

@@ -1,38 +1,40 @@
 -- The units that the tables of a stage place are the ones to report.
-use Prim.Native.Nat.{ℕ, ◌+◌, ◌≤◌, ◌<◌}
+use Prim.Native.Nat.{ℕ, ◌≤◌, ◌<◌}
 use mathlib.Core.Bool.{Bool, true, false, cond}
 use mathlib.Core.List.{List, [], ◌∷◌}
 use mathlib.Core.Path.{◌≡◌, refl, sym, ap, subst, ◌∙◌}
 use native.Mathlib.Omega.{arith}
-use borrow.Author.Tests.{lt-ltb, le-ltb, ne_eqb}
-use lib.Dec.{T, ltb, eqb}
-use lib.ListN.{length, get_or}
+use borrow.Author.Tests.{lt-ltb, le-ltb}
+use lib.Dec.{T, ltb}
+use lib.ListN.{length}
 use Rattle.laws.proofs.Numbers.{by_order}
 use Rattle.phrase.specs.Phrase.{Phrase, Stage}
 use Rattle.paths.specs.declared.passes.Strictness.{Strictness}
 use Rattle.paths.specs.declared.passes.Strictness.TheVariants.{Strict, Relaxed}
 use Rattle.paths.specs.Inner.Order.{Increasing}
-use Rattle.paths.specs.Anchors.{Anchor, kept, row_or}
+use Rattle.paths.specs.Anchors.{Anchor, kept}
 use Rattle.paths.specs.Inner.Ranges.{goes_to, origins_end, before, last_of, row_before}
 use Rattle.paths.specs.StageProblem.{boundary}
 use Rattle.paths.specs.Path.{Bounds}
 use Rattle.paths.proofs.Rising.{Rising, kept_rising}
 use Rattle.paths.proofs.Ranges.{any_relaxed, held_in_range, one_in_range}
 use Rattle.frames.specs.declared.span.Span.{Span}
-use Rattle.stages.specs.Lists.{middles_at, rows_at, span_starts_at, span_ends_at}
 use Rattle.prepare.specs.Sides.{anchor_span, span_before}
-use Rattle.clip.specs.Clip.{anchored, unanchored, given}
-use Rattle.limits.specs.Common.{absent}
-use Rattle.decoding.specs.Report.{low_edge, high_edge, row_span, held_by, placed_by, placed_unit}
+use Rattle.clip.specs.Clip.{given}
+use Rattle.decoding.specs.Report.{low_edge, high_edge, path_span, row_span, held_by, placed_by}
 use Rattle.decoding.proofs.Admitted.{UnitOk}
-use Rattle.decode.specs.declared.report.PlacedUnit.{PlacedUnit}
-use Rattle.decode.specs.Places.{place_of}
+use Rattle.frames.specs.declared.unit.PlacedUnit.{PlacedUnit}
+use Rattle.clip.specs.Inner.Units.{placed}
+use Rattle.std.specs.Prelude.{Option, Some, None}
+
+-- the row of the first of some anchors
+abbrev pub row_of : List Anchor → Option ℕ
+row_of [] = None
+row_of (anchor ∷ more) = Some anchor.row
 
 -- a unit as it stands before clipping, by the anchors that it holds
 abbrev pub place_for : Phrase → Stage → Bounds → List Anchor → PlacedUnit
-place_for phrase stage unit anchors =
-    let span = given (placed_by phrase stage unit anchors) in
-    record { start = span.start; end = span.end; row = row_or absent anchors }
+place_for phrase stage unit anchors = record { span = given (placed_by phrase stage unit anchors); row = row_of anchors }
 
 abbrev pub place_in : Phrase → Stage → Bounds → PlacedUnit
 place_in phrase stage unit = place_for phrase stage unit (held_by phrase stage unit)
@@ -83,8 +85,8 @@ module _ (phrase : Phrase) (stage : Stage) (up : Increasing stage.anchors) (boun
 
     abbrev from_tables : Bool → PlacedUnit
     from_tables b =
-        cond b (record { start = span_there.start; end = span_there.end; row = row_before 0 (kept phrase stage) (boundary stage unit.last) })
-        (record { start = boundary stage unit.first; end = boundary stage unit.last; row = absent })
+        cond b (record { span = span_there; row = Some (row_before 0 (kept phrase stage) (boundary stage unit.last)) })
+        (record { span = path_span stage unit; row = None })
 
     pub placed_by_tables : from_tables (ltb unit.first middle) ≡ place_in phrase stage unit
     unfolding placed_by row_span anchor_span
@@ -93,34 +95,9 @@ module _ (phrase : Phrase) (stage : Stage) (up : Increasing stage.anchors) (boun
         (λ h. ap from_tables (le-ltb unit.first middle h))
         (λ anchor e h. ap from_tables (lt-ltb unit.first middle h) ∙ rw e)
 
-    -- the row says whether there is an anchor
-    pub told_by_row : row_before 0 (kept phrase stage) (boundary stage unit.last) < absent →
-        let place = place_in phrase stage unit in
-        let span : Span = record { start = place.start; end = place.end } in
-        cond (eqb place.row absent) (unanchored span) (anchored span) ≡ placed_unit phrase stage unit
-    unfolding placed_by
-    told_by_row below =
-        held_either (λ anchors.
-        let place = place_for phrase stage unit anchors in
-        let span : Span = record { start = place.start; end = place.end } in
-        cond (eqb place.row absent) (unanchored span) (anchored span) ≡ placed_by phrase stage unit anchors)
-        (λ h. refl)
-        (λ anchor e h.
-        let row : anchor.row < absent = subst (λ (l : List Anchor). row_or 0 l < absent) e below in
-        ap (λ (b : Bool). cond b (unanchored (row_span phrase stage anchor.frame)) (anchored (row_span phrase stage anchor.frame))) (ne_eqb anchor.row absent (λ e. omega arith)))
-
--- ---- a unit with its anchor, and one without
-
-module _ (words : List ℕ) (i j : ℕ) where
-  abbrev either : Bool → PlacedUnit
-  either b =
-      cond b (record { start = get_or words (span_starts_at + j) 0; end = get_or words (span_ends_at + j) 0; row = get_or words (rows_at + j) 0 })
-      (record { start = get_or words i 0; end = get_or words j 0; row = absent })
-
-  pub place_anchored : i < get_or words (middles_at + j) 0 → either true ≡ place_of words i j
-  unfolding place_of
-  place_anchored h = ap either (sym (lt-ltb i (get_or words (middles_at + j) 0) h))
-
-  pub place_bare : get_or words (middles_at + j) 0 ≤ i → either false ≡ place_of words i j
-  unfolding place_of
-  place_bare h = ap either (sym (le-ltb i (get_or words (middles_at + j) 0) h))
+-- the row says whether there is an anchor
+pub told_by_row : (phrase : Phrase) (stage : Stage) (unit : Bounds) (anchors : List Anchor)
+    → placed (place_for phrase stage unit anchors) ≡ placed_by phrase stage unit anchors
+unfolding placed_by
+told_by_row phrase stage unit [] = refl
+told_by_row phrase stage unit (anchor ∷ more) = refl

@@ -1,8 +1,8 @@
 -- Whether there is an added stage, and whether a nucleus is in the mask.
 use Prim.Native.Nat.{ℕ, ◌<◌}
-use mathlib.Core.Bool.{true, false, not}
+use mathlib.Core.Bool.{Bool, true, false, not}
 use mathlib.Core.List.{List, [], ◌∷◌}
-use mathlib.Core.Path.{◌≡◌, sym, ap, ◌∙◌}
+use mathlib.Core.Path.{◌≡◌, refl, sym, ap, subst, ◌∙◌}
 use native.Mathlib.Omega.{arith}
 use borrow.Author.Tests.{eq-eqb, ne_eqb}
 use lib.Dec.{eqb}
@@ -11,16 +11,28 @@ use lib.ListN.{length}
 use Rattle.laws.proofs.Listed.{length_listed}
 use Rattle.phrase.specs.Phrase.{Phrase, Stage}
 use Rattle.paths.specs.Anchors.{kept_in}
-use Rattle.paths.specs.Passes.{non_empty, has_nucleus}
+use Rattle.std.specs.Prelude.{Option, Some, None}
+use Rattle.std.specs.Option.{is_some, ForSome}
+use Rattle.std.specs.Bool.{then_some}
+use Rattle.paths.specs.Passes.{speaks, non_empty, has_nucleus}
 use Rattle.record.specs.Meaning.{phrase_of}
 use Rattle.record.specs.Inner.Accepted.{Laid}
+use Rattle.record.specs.Inner.Reading.{edges_of}
 use Rattle.record.specs.declared.layout.Layout.{Layout}
+use Rattle.record.specs.declared.read.Edges.{Edges}
 use Rattle.record.specs.declared.read.Which.TheVariants.{Count}
 use Rattle.record.proofs.Reading.{nuclei_first, anchors_are}
-use Rattle.closed.specs.Answered.{StageLists, ForBothStages}
+use Rattle.rows.specs.declared.tables.Tables.{Tables}
+use Rattle.closed.specs.Answered.{StageLists, AddedLists}
 use Rattle.prepare.specs.Sides.{Prepared}
 use Rattle.decode.specs.declared.plan.Plan.{Plan}
-use Rattle.decode.specs.Plans.{PlanOf, AddedLaid, BothPrepared}
+use Rattle.decoding.specs.Report.{low_edge, high_edge}
+use Rattle.decode.specs.Plans.{PlanOf, PreparedTables}
+
+-- speech is there where its edges are
+pub some_speaks : (edges : Option Edges) → is_some edges ≡ speaks (edges_of edges)
+some_speaks None = refl
+some_speaks (Some edges) = refl
 
 counted_there : (xs : List ℕ) (n : ℕ) → length xs ≡ n → not (eqb n 0) ≡ non_empty xs
 counted_there [] n e = ap not (eq-eqb n 0 (sym e))
@@ -51,31 +63,42 @@ module _ {bytes : List ℕ} {at : Layout} (h : Laid bytes at) where
   unfolding has_nucleus
   runs_voiced masked inserted i = non_empty (kept_in (masked i) (sym (nuclei_first bytes) i) (inserted i))
 
--- the lists of both stages, by the edges looked up
-pub both_prepared :
-    {phrase : Phrase} {plan : Plan} {words added_words before : List ℕ} {figures added_figures earlier : List Float} → PlanOf phrase plan →
-    Prepared phrase phrase.nuclei plan.lo_edge plan.hi_edge words figures →
-    AddedLaid phrase plan.lo_edge plan.hi_edge before earlier added_words added_figures
-    → BothPrepared phrase words figures added_words added_figures
-both_prepared {phrase} {words = words} {added_words = added_words} {figures = figures} {added_figures = added_figures} planned nuclei added =
-    record {
-      nuclei = coe 0 1 (i. Prepared phrase phrase.nuclei (planned.low i) (planned.high i) words figures) nuclei;
-      added =
-          λ there. coe 0 1 (i. Prepared phrase phrase.added (planned.low i) (planned.high i) added_words added_figures)
-          (added.there there);
-    }
+-- by the edges looked up
+pub prepared_by : {phrase : Phrase} {plan : Plan} {stage : Stage} {words : List ℕ} {figures : List Float} → PlanOf phrase plan
+    → Prepared phrase stage plan.lo_edge plan.hi_edge words figures
+    → Prepared phrase stage (low_edge phrase.speech) (high_edge phrase.speech) words figures
+prepared_by {phrase} {stage = stage} {words = words} {figures = figures} planned prepared =
+    coe 0 1 (i. Prepared phrase stage (planned.low i) (planned.high i) words figures) prepared
 
--- prepared lists of a stage, and of both, hold its tables
-stage_lists :
-    {phrase : Phrase} {stage : Stage} {lo hi : ℕ} {words : List ℕ} {figures : List Float} → Prepared phrase stage lo hi words figures
-    → StageLists phrase stage words figures
-stage_lists prepared = record {
+-- prepared tables of a stage are its tables
+pub stage_lists : {phrase : Phrase} {stage : Stage} (tables : Tables) → PreparedTables phrase stage tables
+    → StageLists phrase stage tables.words.now tables.figures.now
+stage_lists tables prepared = record {
   whole = record { worded = prepared.worded; figured = prepared.figured };
   tabled = prepared.tables.tabled;
 }
 
-pub both_lists :
-    {phrase : Phrase} {words added_words : List ℕ} {figures added_figures : List Float} →
-    BothPrepared phrase words figures added_words added_figures
-    → ForBothStages (StageLists phrase) phrase words figures added_words added_figures
-both_lists lent = record { nuclei = stage_lists lent.nuclei; added = λ there. stage_lists (lent.added there) }
+pub added_lists : {phrase : Phrase} (added : Option Tables) → is_some added ≡ non_empty phrase.added.anchors
+    → ForSome added (PreparedTables phrase phrase.added) → AddedLists phrase added
+added_lists None there prepared = sym there
+added_lists (Some tables) there prepared = (sym there, stage_lists tables (prepared tables refl))
+
+-- the tables of the added stage, where there are added anchors
+some_then : (b : Bool) (tables : Tables) → is_some (then_some b tables) ≡ b
+some_then true tables = refl
+some_then false tables = refl
+
+module _ {bytes : List ℕ} {at : Layout} (h : Laid bytes at) {added : Option Tables} (tables : Tables)
+    (chosen : added ≡ then_some (not (eqb at.added_anchors.count 0)) tables) where
+  pub added_there : is_some added ≡ non_empty (phrase_of bytes).added.anchors
+  added_there = ap is_some chosen ∙ some_then _ tables ∙ runs_added h
+
+  pub added_prepared : (non_empty (phrase_of bytes).added.anchors ≡ true → PreparedTables (phrase_of bytes) (phrase_of bytes).added tables)
+      → ForSome added (PreparedTables (phrase_of bytes) (phrase_of bytes).added)
+  added_prepared prepared t is = go (not (eqb at.added_anchors.count 0)) (runs_added h) (sym chosen ∙ is)
+    where
+      go : (b : Bool) → b ≡ non_empty (phrase_of bytes).added.anchors → then_some b tables ≡ Some t
+          → PreparedTables (phrase_of bytes) (phrase_of bytes).added t
+      go true there e =
+          let same : tables ≡ t = cc in subst (PreparedTables (phrase_of bytes) (phrase_of bytes).added) same (prepared (sym there))
+      go false there e = cc

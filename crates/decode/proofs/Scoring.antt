@@ -1,11 +1,13 @@
 -- From what the search says of a candidate to its entry.
-use Prim.Native.Nat.{ℕ, ◌+◌, ◌≤◌, ◌<◌}
+use Prim.Native.Nat.{ℕ, zero, suc, ◌≤◌, ◌<◌}
 use mathlib.Core.Bool.{not}
-use mathlib.Core.List.{List}
+use mathlib.Core.List.{List, ◌∷◌, map}
 use mathlib.Core.Path.{◌≡◌, refl, sym, ap, subst, ◌∙◌}
 use native.Mathlib.Omega.{arith}
 use lib.Dec.{T}
-use lib.ListN.{length, length-replicate}
+use Rattle.std.proofs.lemmas.List.{take_at}
+use Rattle.std.specs.Prelude.{Ok, Err, Option, Some, IsSome, take}
+use lib.ListN.{length, length-map, replicate}
 use lib.Ieee.{Float, is_nan}
 use Rattle.ieee.specs.Convert.{clamped_log}
 use Rattle.ieee.specs.Inner.Conversions.{ClampedLog}
@@ -17,252 +19,204 @@ use Rattle.paths.specs.declared.passes.Strictness.{Strictness}
 use Rattle.paths.specs.declared.passes.Pass.{Pass}
 use Rattle.paths.specs.declared.passes.Pass.TheVariants.{NucleiStrict, CountStrict, CountRelaxed, NucleiRelaxed}
 use Rattle.paths.specs.Path.{Path, Admitted, units_of}
-use Rattle.paths.specs.Passes.{of_pass, pass_stage, pass_strictness, pass_problem, in_order}
+use Rattle.paths.specs.Passes.{of_pass, pass_number, pass_stage, pass_strictness, pass_problem, in_order}
 use Rattle.paths.specs.Demand as D
 use Rattle.paths.specs.Demand.{Answer, answer_number}
 use Rattle.paths.specs.Search.{chosen}
 use Rattle.paths.specs.StageProblem.{problem_of}
 use Rattle.paths.proofs.PathUnits.{units_count, units_in_order}
-use Rattle.rows.specs.declared.trace.Units.{Units}
-use Rattle.rows.specs.Traced.{UnitsAre}
-use Rattle.closed.specs.declared.search.Answer.TheVariants.{Found, None, Unvoiced}
-use Rattle.closed.specs.declared.search.Searched.{Searched}
-use Rattle.closed.specs.Answered.{Says, pass_word}
+use Rattle.rows.specs.declared.trace.Bounds.{Bounds}
+use Rattle.rows.specs.declared.tables.Tables.{Tables}
+use Rattle.rows.specs.Traced.{held_bounds}
+use Rattle.closed.specs.declared.search.Found.{Found}
+use Rattle.closed.specs.declared.search.Missed.{Missed}
+use Rattle.closed.specs.Answered.{Says, missed_word}
 use Rattle.closed.specs.Asked.{columns_of}
-use Rattle.closed.proofs.Bridge.{readable}
 use Rattle.record.specs.Layout.{layout_of, limits_of}
 use Rattle.record.specs.Meaning.{phrase_of, stage_of}
-use Rattle.record.specs.Inner.Accepted.{Laid, CandidateFit}
+use Rattle.record.specs.Inner.Accepted.{CandidateFit}
 use Rattle.record.specs.Inner.Reading.{candidate_of}
 use Rattle.record.specs.declared.layout.Layout.{Layout}
 use Rattle.record.specs.declared.read.Which.{Which}
 use Rattle.record.specs.declared.read.Which.TheVariants.{Nuclei, Count}
-use Rattle.record.proofs.Accepted.{fit}
+use Rattle.record.proofs.Accepted.{fit, own_moderate}
 use Rattle.record.proofs.Reading.{few_units_law as candidate-units}
-use Rattle.prepare.specs.Sides.{Prepared}
-use Rattle.prepare.proofs.Parts.{few_boundaries_law, anchors_fit, boundaries_fit, rows_fit}
-use Rattle.limits.specs.Common.{absent}
-use Rattle.entries.specs.Inner.EntryFrom.{units_from}
+use Rattle.prepare.proofs.Parts.{few_boundaries_law, anchors_fit, boundaries_fit}
+use Rattle.entries.specs.Inner.EntryFrom.{unit_from}
 use Rattle.entries.specs.declared.words.EntryHead.{EntryHead}
 use Rattle.decode.specs.declared.plan.Plan.{Plan}
-use Rattle.decode.specs.declared.report.Reported.{Reported}
-use Rattle.decode.specs.declared.entry.Scored.{Scored}
-use Rattle.decoding.specs.Report.{low_edge, high_edge, reported_in, reported_units}
+use Rattle.frames.specs.declared.unit.PlacedUnit.{PlacedUnit}
+use Rattle.clip.specs.Inner.Units.{Clipped}
 use Rattle.decoding.specs.EntryOf.{missed_total, missed_units, total_of, units_for, entry_for, entry_by, entry_of}
-use Rattle.decode.specs.Places.{Placeable, ReportedAll, missed_at, Holds}
-use Rattle.decode.specs.Plans.{PlanOf, PreparedWords}
-use Rattle.decode.specs.Scored.{MissedEntry, ScoredAs}
+use Rattle.decode.specs.Places.{place_of, Placeable, missed_at}
+use Rattle.decode.specs.Plans.{PreparedTables, DecodeInputs}
+use Rattle.decode.specs.Scored.{HeadOf, ScoredAs}
 use Rattle.decoding.proofs.Demands.{answered}
 use Rattle.decoding.proofs.Totals.{total_real}
-use Rattle.decoding.proofs.Units.{length_reported_in}
+use Rattle.decoding.proofs.Units.{length_units}
 use Rattle.decode.proofs.Reporting as Reporting
-use Rattle.decode.proofs.Said.{FoundPath, says_found, says_none, says_unvoiced}
+use Rattle.decode.proofs.Said.{FoundPath, says_found, says_missed}
 use Rattle.decode.proofs.Tried.{added_exists}
 use Rattle.decoding.proofs.Admitted.{each_ok}
-use Rattle.decode.proofs.HeldUnits.{held_units, missed_hold}
 
--- ---- the path's units, in the stage of its pass
+map_replicate : {A B : Type 0} (f : A → B) (n : ℕ) (x : A) → map f (replicate n x) ≡ replicate n (f x)
+map_replicate f zero x = refl
+map_replicate f (suc n) x = ap (λ xs. f x ∷ xs) (map_replicate f n x)
 
-module _ {bytes : List ℕ} {at : Layout} (h : Laid bytes at) where
+-- ---- one candidate of those that a decoder has
+
+module _ {bytes : List ℕ} {at : Layout} {plan : Plan} {nuclei : Tables} {added : Option Tables}
+    (inputs : DecodeInputs bytes at plan nuclei added) {candidate : ℕ} (below : candidate < length (phrase_of bytes).candidates) where
   abbrev phrase : Phrase
   phrase = phrase_of bytes
 
-  rows_below : (which : Which) → (stage_of which phrase).first_row + length (stage_of which phrase).anchors ≤ absent
-  rows_below which = omega (arith, rows_fit h which)
+  abbrev chosen_one : Candidate
+  chosen_one = candidate_of phrase candidate
 
-  found_in : (which : Which) (strictness : Strictness)
-      (columns : List ℕ) {words : List ℕ} {figures : List Float} {units : Units} {path : Path}
-      → Prepared phrase (stage_of which phrase) (low_edge phrase.speech) (high_edge phrase.speech) words figures
-      → UnitsAre units (units_of path) → length (units_of path) ≤ most_units
+  abbrev columns : List ℕ
+  columns = columns_of bytes candidate
+
+  fits : CandidateFit (limits_of bytes).units at.scores.count chosen_one
+  fits = (fit inputs.laid).candidates candidate _ below
+
+  pub few_units_law : length columns ≤ most_units
+  few_units_law = candidate-units inputs.laid below
+
+  laid_fits : CandidateFit (limits_of bytes).units (layout_of bytes).scores.count chosen_one
+  laid_fits = subst (λ (x : Layout). CandidateFit (limits_of bytes).units x.scores.count chosen_one) inputs.laid.layout fits
+
+  demanded : D.Demanded phrase columns (chosen phrase columns)
+  demanded = answered bytes inputs.laid.accepted laid_fits
+
+  -- the total of the entry is no NaN
+  total_number_law : (a : Answer) → chosen phrase columns ≡ a → T (not (is_nan (total_of phrase (length columns) a)))
+  total_number_law a is =
+      finite_number _ (total_real bytes inputs.laid.accepted laid_fits (subst (D.Demanded phrase columns) is demanded)).is_finite
+
+  -- an entry, from its parts
+  scored_as : (a : Answer) → chosen phrase columns ≡ a → (head : EntryHead) (units : List PlacedUnit) → head.id ≡ chosen_one.id
+      → head.pass ≡ answer_number a → head.total ≡ total_of phrase (length columns) a → ClampedLog head.total head.llr
+      → map unit_from units ≡ units_for phrase (length columns) a → ScoredAs (limits_of bytes).units (entry_of phrase chosen_one) head units
+  unfolding entry_by entry_for
+  scored_as a is head units named numbered summed clamped units_are = record {
+    whole =
+        (λ i. record {
+          id = named i;
+          pass = numbered i;
+          total = summed i;
+          llr = (clamped.value ∙ ap clamped_log summed) i;
+          units = units_are i;
+        })
+        ∙ ap (entry_for phrase chosen_one) (sym is);
+    writable =
+        record {
+          room = (own_moderate bytes).units;
+          few =
+              omega (
+                arith,
+                length-map units unit_from,
+                ap length units_are,
+                length_units (subst (D.Demanded phrase columns) is demanded),
+                fits.few_units,
+              );
+          number = finite_number _ clamped.within.real.is_finite;
+          total_number = subst (λ (x : Float). T (not (is_nan x))) (sym summed) (total_number_law a is);
+        };
+  }
+
+  -- ---- a path, in the stage of its pass
+
+  pass_there : (pass : Pass) → D.FirstOf phrase columns pass (in_order phrase) → IsSome (of_pass (Some nuclei) added pass)
+  pass_there NucleiStrict first = refl
+  pass_there CountStrict first = inputs.added_there ∙ added_exists first tt
+  pass_there CountRelaxed first = inputs.added_there ∙ added_exists first tt
+  pass_there NucleiRelaxed first = refl
+
+  pass_prepared : (pass : Pass) (tables : Tables) → of_pass (Some nuclei) added pass ≡ Some tables
+      → PreparedTables phrase (pass_stage phrase pass) tables
+  pass_prepared NucleiStrict tables is = let e : nuclei ≡ tables = cc in subst (PreparedTables phrase phrase.nuclei) e inputs.nuclei_prepared
+  pass_prepared CountStrict tables is = inputs.added_prepared tables is
+  pass_prepared CountRelaxed tables is = inputs.added_prepared tables is
+  pass_prepared NucleiRelaxed tables is = let e : nuclei ≡ tables = cc in subst (PreparedTables phrase phrase.nuclei) e inputs.nuclei_prepared
+
+  found_in : (which : Which) (strictness : Strictness) (tables : Tables) {path : Path} → PreparedTables phrase (stage_of which phrase) tables
       → Admitted (problem_of phrase (stage_of which phrase) strictness columns) path
-      → Reporting.Found phrase (stage_of which phrase) strictness words units (units_of path)
-  found_in which strictness columns {figures = figures} prepared are few admitted =
-      let stage = stage_of which phrase in
-      let tabled = prepared.tables.tabled in
-      record {
-        figures = figures;
-        prepared = prepared;
-        are = are;
-        few = few;
-        few_boundaries = few_boundaries_law h which;
-        up = (anchors_fit h which).ascending;
-        bounds_up = (boundaries_fit h which).ascending;
-        rows = λ i below.
-            subst (λ (n : ℕ). n < absent) (tabled.rows i below)
-            ((readable phrase stage _ tabled (anchors_fit h which).ascending (boundaries_fit h which).ascending (few_boundaries_law h which) strictness
-            absent (omega arith) (rows_below which)).rows i below);
-        ok = each_ok phrase stage strictness columns (units_in_order admitted);
-      }
+      → Reporting.Found phrase (stage_of which phrase) strictness tables.words.now (units_of path)
+  found_in which strictness tables prepared admitted = record {
+    figures = tables.figures.now;
+    prepared = prepared;
+    few_boundaries = few_boundaries_law inputs.laid which;
+    up = (anchors_fit inputs.laid which).ascending;
+    bounds_up = (boundaries_fit inputs.laid which).ascending;
+    ok = each_ok phrase (stage_of which phrase) strictness columns (units_in_order admitted);
+  }
 
-  module _ {plan : Plan} (planned : PlanOf phrase plan) {words added_words : List ℕ}
-      (worded : PreparedWords phrase words added_words) {candidate : ℕ} (below : candidate < length phrase.candidates) where
-    abbrev chosen_one : Candidate
-    chosen_one = candidate_of phrase candidate
+  module _ (found : Found) (says : Says (chosen phrase columns) (Ok found)) where
+    abbrev it : FoundPath (chosen phrase columns) found
+    it = says_found (chosen phrase columns) found says
 
-    abbrev columns : List ℕ
-    columns = columns_of bytes candidate
+    found_there : {a : Answer} → D.Demanded phrase columns a → (path : Path) → a ≡ D.found found.pass path found.path.sum
+        → D.Found phrase columns found.pass path found.path.sum
+    found_there {a} d path is = go (subst (D.Demanded phrase columns) is d)
+      where
+        go : D.Demanded phrase columns (D.found found.pass path found.path.sum) → D.Found phrase columns found.pass path found.path.sum
+        go (D.a_path f) = f
 
-    fits : CandidateFit (limits_of bytes).units at.scores.count chosen_one
-    fits = (fit h).candidates candidate _ below
+    abbrev shown : D.Found phrase columns found.pass it.path found.path.sum
+    shown = found_there demanded it.path it.is
 
-    pub few_units_law : length columns ≤ most_units
-    few_units_law = candidate-units h below
+    pub tables_there : IsSome (of_pass (Some nuclei) added found.pass)
+    tables_there = pass_there found.pass shown.first
 
-    laid_fits : CandidateFit (limits_of bytes).units (layout_of bytes).scores.count chosen_one
-    laid_fits = subst (λ (x : Layout). CandidateFit (limits_of bytes).units x.scores.count chosen_one) h.layout fits
+    units_few : length (units_of it.path) ≡ length columns
+    units_few = units_count it.path ∙ shown.best.counted
 
-    demanded : D.Demanded phrase columns (chosen phrase columns)
-    demanded = answered bytes h.accepted laid_fits
+    -- the bounds of the path's units stand in front
+    front : (k : ℕ) → k ≡ length columns → take k found.path.units ≡ map held_bounds (units_of it.path)
+    front k counted =
+        ap (take k) it.units
+        ∙ take_at (map held_bounds (units_of it.path)) _ k (length-map (units_of it.path) held_bounds ∙ units_few ∙ sym counted)
 
-    -- the total of the entry is no NaN
-    total_number_law : (a : Answer) → chosen phrase columns ≡ a → T (not (is_nan (total_of phrase (length columns) a)))
-    total_number_law a is = finite_number _ (total_real bytes h.accepted laid_fits (subst (D.Demanded phrase columns) is demanded)).is_finite
-
-    module _ (searched : Searched) (says : Says (chosen phrase columns) searched) where
-      module _ {pass : Pass} {total : Float} (e : searched.answer ≡ Found pass total) where
-        abbrev it : FoundPath (chosen phrase columns) searched pass total
-        it = says_found (chosen phrase columns) says e
-
-        found_there : {a : Answer} → D.Demanded phrase columns a → (path : Path) → a ≡ D.found pass path total
-            → D.Found phrase columns pass path total
-        found_there {a} d path is = go (subst (D.Demanded phrase columns) is d)
-          where
-            go : D.Demanded phrase columns (D.found pass path total) → D.Found phrase columns pass path total
-            go (D.a_path f) = f
-
-        abbrev shown : D.Found phrase columns pass it.path total
-        shown = found_there demanded it.path it.is
-
-        units_few : length (units_of it.path) ≡ length columns
-        units_few = units_count it.path ∙ shown.best.counted
-
-        few : length (units_of it.path) ≤ most_units
-        few = omega (arith, units_few, few_units_law)
-
-        path_found : Reporting.Found phrase (pass_stage phrase pass) (pass_strictness pass) (of_pass words added_words pass) searched.units
-            (units_of it.path)
-        path_found = go pass it.path it.units few shown.best.admitted shown.first
-          where
-            go : (pass : Pass) (path : Path) → UnitsAre searched.units (units_of path) → length (units_of path) ≤ most_units
-                → Admitted (pass_problem phrase pass columns) path → D.FirstOf phrase columns pass (in_order phrase)
-                → Reporting.Found phrase (pass_stage phrase pass) (pass_strictness pass) (of_pass words added_words pass) searched.units
-                (units_of path)
-            go NucleiStrict path are few admitted first = found_in Nuclei _ columns worded.lent.nuclei are few admitted
-            go CountStrict path are few admitted first =
-                found_in Count _ columns (worded.lent.added (added_exists first tt)) are few admitted
-            go CountRelaxed path are few admitted first =
-                found_in Count _ columns (worded.lent.added (added_exists first tt)) are few admitted
-            go NucleiRelaxed path are few admitted first = found_in Nuclei _ columns worded.lent.nuclei are few admitted
-
-        pub can_place : {own : List ℕ} {k : ℕ} → own ≡ of_pass words added_words pass → k ≡ length columns → Placeable own searched.units k
-        can_place s counted = coe 1 0 (i. Placeable (s i) searched.units ((counted ∙ sym units_few) i)) (Reporting.placeable path_found)
-
-        module _ {own : List ℕ} {k id number : ℕ} {llr : Float} {units : Reported}
-            (s : own ≡ of_pass words added_words pass) (counted : k ≡ length columns) (named : id ≡ chosen_one.id)
-            (numbered : number ≡ pass_word searched.answer)
-            (clamped : ClampedLog total llr) (all : ReportedAll own searched.units k units) where
-          holds : Holds (reported_in phrase (pass_stage phrase pass) (units_of it.path)) units
-          holds =
-              Reporting.reports path_found
-              (coe 0 1 (i. ReportedAll (s i) searched.units ((counted ∙ sym units_few) i) units) all)
-
-          units_are : units_from units.starts units.ends units.rows k 0 ≡ reported_units phrase pass it.path
-          units_are =
-              ap (λ (n : ℕ). units_from units.starts units.ends units.rows n 0)
-              (counted ∙ sym units_few ∙ sym (length_reported_in phrase (pass_stage phrase pass) (units_of it.path)))
-              ∙ held_units holds
-
-          pub scored_found : ScoredAs (limits_of bytes).units (entry_of phrase chosen_one)
-              (record { head = record { id = id; llr = llr; pass = number; units = k; total = total }; units = units })
-          unfolding entry_by entry_for
-          scored_found =
-              coe 1 0 (i. ScoredAs (limits_of bytes).units (entry_for phrase chosen_one (it.is i))
-              (record { head = record { id = id; llr = llr; pass = number; units = k; total = total }; units = units }))
-              (record {
-                whole =
-                    λ i. record {
-                      id = named i;
-                      pass = (numbered ∙ ap pass_word e) i;
-                      total = total;
-                      llr = clamped.value i;
-                      units = units_are i;
-                    };
-                number = finite_number _ clamped.within.real.is_finite;
-                total_number = total_number_law (D.found pass it.path total) it.is;
-                few = omega (arith, fits.few_units);
-                starts = holds.starts_long;
-                ends = holds.ends_long;
-                rows = holds.rows_long;
-              })
-
-      -- no path, by one of two words
-      scored_missed : (a : Answer) → chosen phrase columns ≡ a → total_of phrase (length columns) a ≡ missed_total phrase (length columns)
-          → units_for phrase (length columns) a ≡ missed_units phrase (length columns)
-          → {k id number : ℕ} {r : Scored} → k ≡ length columns → id ≡ chosen_one.id → number ≡ answer_number a
-          → MissedEntry id k number plan.costs plan.lo_edge r → ScoredAs (limits_of bytes).units (entry_of phrase chosen_one) r
-      unfolding entry_by entry_for
-      scored_missed a is totals spans {k} {id} {number} {r} counted named numbered missed =
-          coe 1 0 (i. ScoredAs (limits_of bytes).units (entry_for phrase chosen_one (is i))
-          (record { head = head i; units = (missed.units ∙ ap missed_at planned.low) i }))
-          (record {
-            whole =
-                λ i. record {
-                  id = chosen_one.id;
-                  pass = answer_number a;
-                  total = total_of phrase n a;
-                  llr = clamped_log (total_of phrase n a);
-                  units = units_are i;
-                };
-            number = subst (λ (h : EntryHead). T (not (is_nan h.llr))) head missed.number;
-            total_number = total_number_law a is;
-            few = fits.few_units;
-            starts = held.starts_long;
-            ends = held.ends_long;
-            rows = held.rows_long;
-          })
+    module _ (tables : Tables) (theirs : of_pass (Some nuclei) added found.pass ≡ Some tables) where
+      path_found : Reporting.Found phrase (pass_stage phrase found.pass) (pass_strictness found.pass) tables.words.now (units_of it.path)
+      path_found = go found.pass it.path (pass_prepared found.pass tables theirs) shown.best.admitted
         where
-          n : ℕ
-          n = length columns
+          go : (pass : Pass) (path : Path) → PreparedTables phrase (pass_stage phrase pass) tables
+              → Admitted (pass_problem phrase pass columns) path
+              → Reporting.Found phrase (pass_stage phrase pass) (pass_strictness pass) tables.words.now (units_of path)
+          go NucleiStrict path prepared admitted = found_in Nuclei _ tables prepared admitted
+          go CountStrict path prepared admitted = found_in Count _ tables prepared admitted
+          go CountRelaxed path prepared admitted = found_in Count _ tables prepared admitted
+          go NucleiRelaxed path prepared admitted = found_in Nuclei _ tables prepared admitted
 
-          at_start : Reported
-          at_start = missed_at (low_edge phrase.speech)
+      pub can_place : (k : ℕ) → k ≡ length columns
+          → Placeable tables.words.now (take k found.path.units) × (length (take k found.path.units) ≡ k)
+      can_place k counted = (
+        subst (Placeable tables.words.now) (sym (front k counted)) (Reporting.placeable path_found),
+        ap length (front k counted) ∙ length-map (units_of it.path) held_bounds ∙ units_few ∙ sym counted,
+      )
 
-          held : Holds (missed_units phrase n) at_start
-          held = missed_hold n (low_edge phrase.speech) few_units_law
+      pub scored_found : {k id number : ℕ} {head : EntryHead} {units : List PlacedUnit} → k ≡ length columns → id ≡ chosen_one.id
+          → number ≡ pass_number found.pass → HeadOf id number found.path.sum head
+          → Clipped (map (place_of tables.words.now) (take k found.path.units)) units
+          → ScoredAs (limits_of bytes).units (entry_of phrase chosen_one) head units
+      scored_found {k} {head = head} {units = units} counted named numbered headed clipped =
+          scored_as (D.found found.pass it.path found.path.sum) it.is head units (headed.named ∙ named) (headed.numbered ∙ numbered) headed.summed
+          headed.clamped
+          (Reporting.reports path_found
+          (subst (λ (path : List Bounds). Clipped (map (place_of tables.words.now) path) units) (front k counted) clipped))
 
-          units_are : units_from at_start.starts at_start.ends at_start.rows n 0 ≡ units_for phrase n a
-          units_are =
-              ap (λ (m : ℕ). units_from at_start.starts at_start.ends at_start.rows m 0) (sym (length-replicate n _))
-              ∙ held_units held ∙ sym spans
-
-          total : unanchored_units plan.costs k ≡ total_of phrase n a
-          total = (λ i. unanchored_units (planned.costs i) (counted i)) ∙ sym totals
-
-          head : r.head ≡ record {
-            id = chosen_one.id;
-            llr = clamped_log (total_of phrase n a);
-            pass = answer_number a;
-            units = n;
-            total = total_of phrase n a;
-          }
-          head =
-              missed.head ∙ (λ i. record {
-                id = named i;
-                llr = clamped_log (total i);
-                pass = numbered i;
-                units = counted i;
-                total = total i;
-              })
-
-      pub scored_none : searched.answer ≡ None → {k id number : ℕ} {r : Scored} → k ≡ length columns → id ≡ chosen_one.id
-          → number ≡ pass_word searched.answer
-          → MissedEntry id k number plan.costs plan.lo_edge r → ScoredAs (limits_of bytes).units (entry_of phrase chosen_one) r
-      scored_none e counted named numbered missed =
-          scored_missed D.none (says_none (chosen phrase columns) searched says e) refl refl counted named (numbered ∙ ap pass_word e) missed
-
-      pub scored_unvoiced : searched.answer ≡ Unvoiced → {k id number : ℕ} {r : Scored} → k ≡ length columns → id ≡ chosen_one.id
-          → number ≡ pass_word searched.answer
-          → MissedEntry id k number plan.costs plan.lo_edge r → ScoredAs (limits_of bytes).units (entry_of phrase chosen_one) r
-      scored_unvoiced e counted named numbered missed =
-          scored_missed D.unvoiced (says_unvoiced (chosen phrase columns) searched says e) refl refl counted named
-          (numbered ∙ ap pass_word e) missed
+  pub scored_missed : (missed : Missed) (says : Says (chosen phrase columns) (Err missed))
+      → {k id number : ℕ} {total : Float} {head : EntryHead} {units : List PlacedUnit} → k ≡ length columns → id ≡ chosen_one.id
+      → number ≡ missed_word missed → total ≡ unanchored_units plan.costs k → HeadOf id number total head
+      → units ≡ replicate k (missed_at plan.lo_edge) → ScoredAs (limits_of bytes).units (entry_of phrase chosen_one) head units
+  scored_missed missed says {head = head} {units = units} counted named numbered summed headed missed_are =
+      let a : Answer = chosen phrase columns in
+      let n : ℕ = length columns in
+      let pathless = says_missed
+      (λ answer number. (answer_number answer ≡ number) × (total_of phrase n answer ≡ missed_total phrase n) × (units_for phrase n answer ≡ missed_units phrase n))
+      (refl, refl, refl) (refl, refl, refl) a missed says in
+      scored_as a refl head units (headed.named ∙ named) (headed.numbered ∙ numbered ∙ sym pathless.0)
+      (headed.summed ∙ summed ∙ (λ i. unanchored_units (inputs.planned.costs i) (counted i)) ∙ sym pathless.1) headed.clamped
+      (ap (map unit_from) missed_are ∙ map_replicate unit_from _ (missed_at plan.lo_edge)
+      ∙ (λ i. replicate (counted i) (unit_from (missed_at (inputs.planned.low i)))) ∙ sym pathless.2)

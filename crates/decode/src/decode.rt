@@ -5,17 +5,17 @@ ghost use Rattle.decoding.specs.Contract.{Decodes};
 ghost use Rattle.record.specs.Inner.Accepted.{Laid};
 ghost use Rattle.decode.specs.Calls.{Enough, Leaves};
 
-use crate::entry::put_candidates;
+use crate::decoder::Decoder;
 use crate::lay::lay_added;
 use crate::plan::plan_of;
 use checks::check_areas;
-use decoding::answer::Decoded;
 use limits::edition::limits_of;
+use limits::refusal::Refusal;
 use prepare::stage::lay_stage;
 use record::layout::Layout;
 use record::read::Which;
-use record::refusal::Checked;
 use rows::clear::clear;
+use rows::tables::Tables;
 use stages::lists::{FIGURES, WORDS};
 
 // Decodes an accepted record into buffers that are long enough.
@@ -35,32 +35,30 @@ fn decode_accepted(record: &[u8], at: Layout, best: &mut [f64], back: &mut [u32]
     let hi = plan.hi_edge;
     lay_stage(record, at, Which::Nuclei, lo, hi, &mut words, &mut figures);
     lay_added(record, at, lo, hi, &mut added_words, &mut added_figures);
-    put_candidates(
-        best,
-        back,
-        record,
-        at,
-        plan,
-        &words,
-        &figures,
-        &added_words,
-        &added_figures,
-        out,
-    );
+    let nuclei = Tables {
+        words: &words,
+        figures: &figures,
+    };
+    let laid = Tables {
+        words: &added_words,
+        figures: &added_figures,
+    };
+    let added = (at.added_anchors.count != 0).then_some(laid);
+    let decoder = Decoder::new(record, at, plan, nuclei, added);
+    decoder.put_candidates(best, back, out);
 }
 
 // Decodes the record into `out`, one entry for each candidate, best first. Nothing is written before every check is passed.
-pub fn decode(record: &[u8], best: &mut [f64], back: &mut [u32], out: &mut [u32]) -> Decoded
+pub fn decode(
+    record: &[u8],
+    best: &mut [f64],
+    back: &mut [u32],
+    out: &mut [u32],
+) -> Result<u32, Refusal>
     ensures { Decodes «record».now best.old back.old out.old result best.new
         back.new out.new }
 {
-    let checked = check_areas(record, best.len(), back.len(), out.len());
-    match checked {
-        Checked::Refused(refusal) => Decoded::Refused(refusal),
-        Checked::Accepted(at) => {
-            decode_accepted(record, at, best, back, out);
-            let count = at.candidates.count as u32;
-            Decoded::Entries(count)
-        }
-    }
+    let at = check_areas(record, best.len(), back.len(), out.len())?;
+    decode_accepted(record, at, best, back, out);
+    Ok(at.candidates.count as u32)
 }

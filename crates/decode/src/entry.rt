@@ -1,206 +1,127 @@
 // The entry of one candidate, after `Decoder::score` of closed.rs.
 
-ghost use Rattle.std.specs.Prelude.{◌++◌, ◌≡◌, ◌+◌, ◌*◌, ◌≤◌, ◌<◌, length, drop};
+ghost use Rattle.std.specs.Prelude.{◌++◌, ◌≡◌, ◌+◌, ◌*◌, ◌≤◌, ◌<◌, Some, IsSome, length, drop};
 ghost use Rattle.closed.specs.Answered.{Says};
-ghost use Rattle.closed.specs.Asked.{columns_of};
-ghost use Rattle.entries.specs.Entry.{Entry};
+ghost use Rattle.closed.specs.Asked.{columns_of, Unused};
 ghost use Rattle.entries.specs.Inner.Placing.{Inserted};
 ghost use Rattle.entries.specs.Ranking.{ranked};
 ghost use Rattle.entries.specs.Words.{all_words};
-ghost use Rattle.limits.specs.Capacity.{most_units};
 ghost use Rattle.paths.specs.Passes.{of_pass};
 ghost use Rattle.paths.specs.Search.{chosen};
-ghost use Rattle.limits.specs.Capacity.{most_units};
-ghost use Rattle.limits.specs.Sizes.{entry_words};
+ghost use Rattle.limits.specs.Sizes.{entry_words, work_cells};
 ghost use Rattle.record.specs.Layout.{limits_of};
 ghost use Rattle.record.specs.Meaning.{phrase_of};
-ghost use Rattle.record.specs.Inner.Accepted.{Laid};
 ghost use Rattle.record.specs.Inner.Reading.{candidate_of};
 ghost use Rattle.decoding.specs.EntryOf.{entry_of, entries_of};
-ghost use Rattle.decode.specs.Plans.{PlanOf, PreparedWords, DecodeInputs};
-ghost use Rattle.decode.specs.Scored.{MissedEntry, ScoredAs};
+ghost use Rattle.decode.specs.Scored.{HeadOf, ScoredAs};
 
-use crate::missed::missed_units;
-use crate::plan::Plan;
-use crate::report::{Reported, reported_units};
-use closed::search::{Answer, Searched, Task, search};
+use crate::decoder::Decoder;
+use crate::missed::missed_unit;
+use crate::report::report_units;
+use closed::search::{Found, Missed, search};
+use closed::task::Task;
 use entries::ranking::insert_entry;
 use entries::words::EntryHead;
+use frames::unit::PlacedUnit;
 use ieee::convert::clamp_log;
+use limits::capacity::MOST_UNITS;
 use limits::edition::limits_of;
 use paths::passes::Pass;
-use phrase::costs::Costs;
+use reading::accepted::AcceptedRecord;
 use reading::read;
-use record::layout::Layout;
+use rows::tables::Tables;
 
-// An entry, not yet at its rank. Its units are the first of `units`.
-#[derive(Clone, Copy)]
-pub struct Scored {
-    pub head: EntryHead,
-    pub units: Reported,
-}
-
-// The words of the stage that a pass searches.
-fn words_for<'a>(words: &'a [u32], added_words: &'a [u32], pass: Pass) -> &'a [u32]
-    ensures { result.now ≡ of_pass words.now added_words.now pass }
+// "llr: the sum clamped to ±1,000,000, then nearest-even to f32."
+fn head_of(id: u32, pass: u32, total: f64) -> EntryHead
+    ensures { HeadOf id pass total result }
 {
-    match pass {
-        Pass::NucleiStrict => words,
-        Pass::CountStrict => added_words,
-        Pass::CountRelaxed => added_words,
-        Pass::NucleiRelaxed => words,
-    }
-}
-
-// "No path: f32 k × unvoiced, widened, clamped", and empty spans where speech starts.
-fn missed_entry(id: u32, k: usize, pass: u32, costs: Costs, at: u32) -> Scored
-    requires { k ≤ most_units }
-    ensures { MissedEntry id k pass costs at result }
-{
-    let total = costs.unanchored_units(k);
     let llr = clamp_log(total);
-    let head = EntryHead {
+    EntryHead {
         id,
         llr,
         pass,
-        units: k,
         total,
-    };
-    let units = missed_units(at);
-    Scored { head, units }
-}
-
-fn score_candidate<'a>(
-    bytes: &[u8],
-    at: Layout,
-    plan: Plan,
-    candidate: usize,
-    searched: Searched,
-    words: &'a [u32],
-    added_words: &'a [u32],
-) -> Scored
-    requires laid { Laid bytes.now at }
-    requires candidate_in_bounds { candidate < length (phrase_of bytes.now).candidates }
-    requires plan_of { PlanOf (phrase_of bytes.now) plan }
-    requires says { Says (chosen (phrase_of bytes.now) (columns_of bytes.now candidate)) searched }
-    requires prepared_words { PreparedWords (phrase_of bytes.now) words.now added_words.now }
-    ensures { ScoredAs (limits_of bytes.now).units
-        (entry_of (phrase_of bytes.now) (candidate_of (phrase_of bytes.now) candidate)) result }
-{
-    let id = read::id(bytes, at, candidate);
-    let k = read::units(bytes, at, candidate);
-    let answer = searched.answer;
-    let path = searched.units;
-    let pass = answer.number();
-    match answer {
-        Answer::Found(found, sum) => {
-            let units = reported_units(path, k, words_for(words, added_words, found));
-            let llr = clamp_log(sum);
-            let head = EntryHead {
-                id,
-                llr,
-                pass,
-                units: k,
-                total: sum,
-            };
-            Scored { head, units }
-        }
-        Answer::None => missed_entry(id, k, pass, plan.costs, plan.lo_edge),
-        Answer::Unvoiced => missed_entry(id, k, pass, plan.costs, plan.lo_edge),
     }
 }
 
-// An entry goes to its rank among the `number` that are there, each with room for `most` units.
-fn insert_scored(out: &mut [u32], number: usize, most: usize, entry: Scored)
-    requires { ((number + 1) * entry_words most ≤ length out.old) × (most ≤ most_units) × ((e : Entry) × ScoredAs most e entry) }
-    ensures { (e : Entry) → ScoredAs most e entry → Inserted most number e out.old out.new }
-{
-    let units = entry.units;
-    let starts = units.starts;
-    let ends = units.ends;
-    let rows = units.rows;
-    insert_entry(out, number, most, entry.head, &starts, &ends, &rows);
-}
+impl<'a> Decoder<'a> {
+    // The tables of the stage that a pass searches.
+    fn tables_of(&self, pass: Pass) -> Tables<'a>
+        requires { IsSome (of_pass (Some self.now.nuclei) self.now.added pass) }
+        ensures { of_pass (Some self.now.nuclei) self.now.added pass ≡ Some result }
+    {
+        match pass {
+            Pass::NucleiStrict => self.nuclei,
+            Pass::CountStrict => self.added.unwrap(),
+            Pass::CountRelaxed => self.added.unwrap(),
+            Pass::NucleiRelaxed => self.nuclei,
+        }
+    }
 
-// One more candidate: its entry goes to its rank among those before it. The work areas end as they came.
-fn put_candidate<'a>(
-    best: &mut [f64],
-    back: &mut [u32],
-    bytes: &[u8],
-    at: Layout,
-    plan: Plan,
-    words: &'a [u32],
-    figures: &'a [f64],
-    added_words: &'a [u32],
-    added_figures: &'a [f64],
-    number: usize,
-    out: &mut [u32],
-)
-    requires decode_inputs { DecodeInputs bytes.now at plan words.now figures.now added_words.now added_figures.now best.old
-        back.old }
-    requires number_in_bounds { (number < length (phrase_of bytes.now).candidates)
-        × ((number + 1) * entry_words (limits_of bytes.now).units ≤ length out.old) }
-    ensures inserted { Inserted (limits_of bytes.now).units number
-        (entry_of (phrase_of bytes.now) (candidate_of (phrase_of bytes.now) number)) out.old
-        out.new }
-    ensures best_unchanged { (best.new ≡ best.old) × (back.new ≡ back.old) }
-{
-    let costs = plan.costs;
-    let task = Task {
-        at,
-        costs,
-        candidate: number,
-    };
-    let searched = search(
-        best,
-        back,
-        bytes,
-        task,
-        words,
-        figures,
-        added_words,
-        added_figures,
-        plan.runs,
-    );
-    let entry = score_candidate(bytes, at, plan, number, searched, words, added_words);
-    insert_scored(out, number, limits_of(at.edition).units, entry);
-}
+    // The head of a candidate's entry, and its units, one for each of its columns, over `units`. "No path: f32 k × unvoiced, widened", and
+    // empty spans where speech starts.
+    fn score(
+        &self,
+        candidate: usize,
+        searched: Result<Found, Missed>,
+        units: &mut [PlacedUnit],
+    ) -> EntryHead
+        requires candidate_in_bounds { candidate < length (phrase_of self.now.bytes.now).candidates }
+        requires says { Says (chosen (phrase_of self.now.bytes.now) (columns_of self.now.bytes.now candidate)) searched }
+        requires unit_each { length units.old ≡ length (columns_of self.now.bytes.now candidate) }
+        ensures { ScoredAs (limits_of self.now.bytes.now).units
+            (entry_of (phrase_of self.now.bytes.now) (candidate_of (phrase_of self.now.bytes.now) candidate)) result units.new }
+    {
+        let id = read::id(self.bytes, self.at, candidate);
+        match searched {
+            Ok(found) => {
+                let path = found.path.units;
+                let tables = self.tables_of(found.pass);
+                report_units(&path[..units.len()], tables.words, units);
+                head_of(id, u32::from(found.pass), found.path.sum)
+            }
+            Err(missed) => {
+                units.fill(missed_unit(self.plan.lo_edge));
+                let total = self.plan.costs.unanchored_units(units.len());
+                head_of(id, u32::from(missed), total)
+            }
+        }
+    }
 
-// Every candidate of the record, in its order.
-pub fn put_candidates<'a>(
-    best: &mut [f64],
-    back: &mut [u32],
-    bytes: &[u8],
-    at: Layout,
-    plan: Plan,
-    words: &'a [u32],
-    figures: &'a [f64],
-    added_words: &'a [u32],
-    added_figures: &'a [f64],
-    out: &mut [u32],
-)
-    requires decode_inputs { DecodeInputs bytes.now at plan words.now figures.now added_words.now added_figures.now best.old
-        back.old }
-    requires bytes_in_bounds { length (phrase_of bytes.now).candidates * entry_words (limits_of bytes.now).units ≤ length out.old }
-    ensures out_after { out.new ≡ all_words (limits_of bytes.now).units (ranked (entries_of (phrase_of bytes.now)))
-        ++ drop (length (phrase_of bytes.now).candidates * entry_words (limits_of bytes.now).units)
-        out.old }
-    ensures best_unchanged { (best.new ≡ best.old) × (back.new ≡ back.old) }
-{
-    let count = at.candidates.count;
-    for candidate in 0..count {
-        put_candidate(
-            best,
-            back,
-            bytes,
-            at,
-            plan,
-            words,
-            figures,
-            added_words,
-            added_figures,
-            candidate,
-            out,
-        );
+    // One more candidate: its entry goes to its rank among those before it. The work areas end as they came.
+    fn put_candidate(&self, best: &mut [f64], back: &mut [u32], number: usize, out: &mut [u32])
+        requires unused { Unused best.old back.old (work_cells (limits_of self.now.bytes.now)) }
+        requires number_in_bounds { number < length (phrase_of self.now.bytes.now).candidates }
+        requires room { (number + 1) * entry_words (limits_of self.now.bytes.now).units ≤ length out.old }
+        ensures inserted { Inserted (limits_of self.now.bytes.now).units number
+            (entry_of (phrase_of self.now.bytes.now) (candidate_of (phrase_of self.now.bytes.now) number)) out.old
+            out.new }
+        ensures best_unchanged { (best.new ≡ best.old) × (back.new ≡ back.old) }
+    {
+        let task = Task {
+            accepted: AcceptedRecord::new(self.bytes, self.at),
+            costs: self.plan.costs,
+            candidate: number,
+        };
+        let searched = search(best, back, &task, self.nuclei, self.added, self.plan.runs);
+        let k = read::units(self.bytes, self.at, number);
+        let mut room = [missed_unit(0); MOST_UNITS];
+        let units = &mut room[..k];
+        let head = self.score(number, searched, units);
+        insert_entry(out, number, limits_of(self.at.edition).units, head, units);
+    }
+
+    // Every candidate of the record, in its order.
+    pub fn put_candidates(&self, best: &mut [f64], back: &mut [u32], out: &mut [u32])
+        requires unused { Unused best.old back.old (work_cells (limits_of self.now.bytes.now)) }
+        requires room { length (phrase_of self.now.bytes.now).candidates * entry_words (limits_of self.now.bytes.now).units ≤ length out.old }
+        ensures out_after { out.new ≡ all_words (limits_of self.now.bytes.now).units (ranked (entries_of (phrase_of self.now.bytes.now)))
+            ++ drop (length (phrase_of self.now.bytes.now).candidates * entry_words (limits_of self.now.bytes.now).units)
+            out.old }
+        ensures best_unchanged { (best.new ≡ best.old) × (back.new ≡ back.old) }
+    {
+        for candidate in 0..self.at.candidates.count {
+            self.put_candidate(best, back, candidate, out);
+        }
     }
 }

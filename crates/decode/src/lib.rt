@@ -3,6 +3,7 @@
 #![tactic(auto)]
 
 pub mod decode;
+pub mod decoder;
 pub mod entry;
 pub mod lay;
 pub mod missed;

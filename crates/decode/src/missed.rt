@@ -1,18 +1,17 @@
-// The units reported where there is no path, after `Decoder::no_path` of closed.rs.
+// The unit reported where there is no path, after `Decoder::no_path` of closed.rs.
 
 ghost use Rattle.std.specs.Prelude.{◌≡◌};
 ghost use Rattle.decode.specs.Places.{missed_at};
 
-use crate::report::Reported;
-use limits::capacity::MOST_UNITS;
-use limits::common::ABSENT;
+use frames::span::Span;
+use frames::unit::PlacedUnit;
 
-// Empty spans at a frame, as many as an entry has room for.
-pub fn missed_units(at: u32) -> Reported
+// An empty span at a frame.
+pub fn missed_unit(at: u32) -> PlacedUnit
     ensures { result ≡ missed_at at }
 {
-    let starts = [at; MOST_UNITS];
-    let ends = [at; MOST_UNITS];
-    let rows = [ABSENT; MOST_UNITS];
-    Reported { starts, ends, rows }
+    PlacedUnit {
+        span: Span { start: at, end: at },
+        row: None,
+    }
 }

@@ -2,11 +2,9 @@
 
 ghost use Rattle.std.specs.Prelude.{◌≡◌};
 ghost use Rattle.closed.specs.Answered.{RunsOf};
-ghost use Rattle.paths.specs.Passes.{speaks};
 ghost use Rattle.record.specs.Meaning.{phrase_of};
 ghost use Rattle.record.specs.Inner.Accepted.{Laid};
 ghost use Rattle.record.specs.Inner.Reading.{edges_of};
-ghost use Rattle.decoding.specs.Report.{low_edge, high_edge};
 ghost use Rattle.decode.specs.Plans.{PlanOf};
 
 use closed::search::Runs;
@@ -25,34 +23,7 @@ pub struct Plan {
     pub hi_edge: u32,
 }
 
-fn spoken(edges: Edges) -> bool
-    ensures { result ≡ speaks (edges_of edges) }
-{
-    match edges {
-        Edges::Silent => false,
-        Edges::Spoken(_, _) => true,
-    }
-}
-
-fn lo_edge(edges: Edges) -> u32
-    ensures { result ≡ low_edge (edges_of edges) }
-{
-    match edges {
-        Edges::Silent => 0,
-        Edges::Spoken(start, _) => start,
-    }
-}
-
-fn hi_edge(edges: Edges) -> u32
-    ensures { result ≡ high_edge (edges_of edges) }
-{
-    match edges {
-        Edges::Silent => 0,
-        Edges::Spoken(_, end) => end,
-    }
-}
-
-fn runs_of(bytes: &[u8], at: Layout, edges: Edges) -> Runs
+fn runs_of(bytes: &[u8], at: Layout, edges: Option<Edges>) -> Runs
     requires laid { Laid bytes.now at }
     requires edges_value { edges_of edges ≡ (phrase_of bytes.now).speech }
     ensures { RunsOf (phrase_of bytes.now) result }
@@ -61,9 +32,8 @@ fn runs_of(bytes: &[u8], at: Layout, edges: Edges) -> Runs
     let count = read::anchors(bytes, at, Which::Nuclei, &mut nuclei);
     let voiced = has_nucleus(read::mask(bytes, at), &nuclei[..count]);
     Runs {
-        spoken: spoken(edges),
+        spoken: edges.is_some(),
         voiced,
-        added: at.added_anchors.count != 0,
     }
 }
 
@@ -77,7 +47,7 @@ pub fn plan_of(bytes: &[u8], at: Layout) -> Plan
     Plan {
         costs,
         runs,
-        lo_edge: lo_edge(edges),
-        hi_edge: hi_edge(edges),
+        lo_edge: edges.map_or(0, |edges| edges.start),
+        hi_edge: edges.map_or(0, |edges| edges.end),
     }
 }

@@ -5,6 +5,8 @@ use mathlib.Core.Option.{none}
 use mathlib.Core.Path.{◌≡◌, refl, sym, ap, subst, ◌∙◌}
 use lib.ListN.{length, drop, length-map}
 use lib.Ieee.{Float}
+use Rattle.std.specs.Prelude.{Result}
+use Rattle.limits.specs.declared.refusal.Refusal.{Refusal}
 use Rattle.laws.specs.Inner.Each.{Each}
 use Rattle.laws.proofs.Each.{each_map, each_from, each_at}
 use Rattle.limits.specs.Sizes.{entry_words}
@@ -21,7 +23,6 @@ use Rattle.entries.proofs.Ranks.{each_ranked}
 use Rattle.entries.proofs.RankedLength.{length_ranked}
 use Rattle.decoding.specs.EntryOf.{entry_of, entries_of}
 use Rattle.decoding.specs.Contract.{Decodes}
-use Rattle.decoding.specs.declared.answer.Decoded.{Decoded}
 use Rattle.decoding.proofs.Calls.{own_rules_law}
 use Rattle.decoding.proofs.Demands.{entries_fit}
 
@@ -65,7 +66,7 @@ module _ (bytes : List ℕ) (accepted : refusal_of bytes ≡ none) where
 
 -- what every decoder that meets the contract leaves in the output
 pub at_rank :
-    {bytes : List ℕ} {best : List Float} {back out : List ℕ} {answer : Decoded} {best' : List Float} {back' out' : List ℕ} →
+    {bytes : List ℕ} {best : List Float} {back out : List ℕ} {answer : Result ℕ Refusal} {best' : List Float} {back' out' : List ℕ} →
     Decodes bytes best back out answer best' back' out' → refusal_with bytes (length best) (length back) (length out) ≡ none →
     (rank : ℕ) → rank < length (phrase_of bytes).candidates →
     AtRank bytes (drop (rank * entry_words (limits_of bytes).units) out')

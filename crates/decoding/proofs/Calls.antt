@@ -1,4 +1,4 @@
--- What the check of a call says of it: refused by which rule, or accepted with buffers that are long enough.
+-- What the check of an accepted call says of it: its buffers are long enough.
 use Prim.Native.Nat.{ℕ, ◌*◌, ◌≤◌}
 use mathlib.Core.Bool.{Bool, true, false, ◌||◌, cond}
 use mathlib.Core.List.{List}
@@ -17,10 +17,10 @@ use Rattle.record.specs.Inner.Checks.{checked_with}
 use Rattle.record.specs.Meaning.{phrase_at, phrase_of}
 use Rattle.record.specs.Inner.Accepted.{Laid}
 use Rattle.record.specs.declared.layout.Layout.{Layout}
-use Rattle.record.specs.declared.refusal.Refusal.{Refusal}
-use Rattle.record.specs.declared.refusal.Refusal.TheVariants.{Desk}
-use Rattle.record.specs.declared.refusal.Checked.TheVariants.{Refused, Accepted}
-use Rattle.record.proofs.Answers.{given, accepts, refused_first, desk_last}
+use Rattle.limits.specs.declared.refusal.Refusal.{Refusal}
+use Rattle.limits.specs.declared.refusal.Refusal.TheVariants.{Desk}
+use Rattle.std.specs.Prelude.{Ok}
+use Rattle.record.proofs.Answers.{accepts, refused_first, desk_last}
 
 -- M by the layout is M by the phrase
 pub candidates_counted : (bytes : List ℕ) → length (phrase_of bytes).candidates ≡ (layout_of bytes).candidates.count
@@ -54,10 +54,7 @@ module _ (bytes : List ℕ) (best back out : ℕ) where
       go true e = absurd (some-ne-none Desk e)
       go false e = refl
 
-  pub refused_call : (q : Refusal) → checked_with bytes best back out ≡ Refused q → refusal_with bytes best back out ≡ some q
-  refused_call q e = given (refusal_with bytes best back out) (layout_of bytes) q e
-
-  pub accepted_call : (at : Layout) → checked_with bytes best back out ≡ Accepted at → AcceptedCall bytes best back out at
+  pub accepted_call : (at : Layout) → checked_with bytes best back out ≡ Ok at → AcceptedCall bytes best back out at
   accepted_call at e =
       let h = accepts (refusal_with bytes best back out) (layout_of bytes) at e in
       let count = (layout_of bytes).candidates.count in

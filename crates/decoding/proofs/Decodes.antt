@@ -5,17 +5,17 @@ use mathlib.Core.Option.{Option, none, some, none-ne-some, some-ne-none}
 use mathlib.Core.Path.{◌≡◌, refl, sym, ap, ◌∙◌}
 use lib.ListN.{length, replicate, drop}
 use lib.Ieee.{Float, binary64, of_bits}
+use Rattle.std.specs.Prelude.{Ok, Err}
 use Rattle.frames.specs.Outcome.{accepted}
 use Rattle.limits.specs.Sizes.{entry_words, work_cells}
 use Rattle.record.specs.Layout.{limits_of}
 use Rattle.record.specs.Refusals.{refusal_with}
 use Rattle.record.specs.Meaning.{phrase_of}
-use Rattle.record.specs.declared.refusal.Refusal.{Refusal}
+use Rattle.limits.specs.declared.refusal.Refusal.{Refusal}
 use Rattle.entries.specs.Words.{all_words}
 use Rattle.entries.specs.Ranking.{ranked}
 use Rattle.decoding.specs.EntryOf.{entries_of}
 use Rattle.decoding.specs.Contract.{outcome_of, Decodes}
-use Rattle.decoding.specs.declared.answer.Decoded.TheVariants.{Entries, Refused}
 use Rattle.decoding.proofs.Calls.{own_rules_law}
 use Rattle.decoding.proofs.Demands.{demands, ranking}
 
@@ -23,7 +23,7 @@ module _ (bytes : List ℕ) (best : List Float) (back out : List ℕ) where
   abbrev refusal : Option Refusal
   refusal = refusal_with bytes (length best) (length back) (length out)
 
-  pub decodes_refused : (q : Refusal) → refusal ≡ some q → Decodes bytes best back out (Refused q) best back out
+  pub decodes_refused : (q : Refusal) → refusal ≡ some q → Decodes bytes best back out (Err q) best back out
   decodes_refused q e = record {
     answered = sym (ap (λ (o : Option Refusal). outcome_of o (length (phrase_of bytes).candidates)) e);
     accepts = λ fine. absurd (some-ne-none q (sym e ∙ fine));
@@ -36,7 +36,7 @@ module _ (bytes : List ℕ) (best : List Float) (back out : List ℕ) where
       ++ drop (length (phrase_of bytes).candidates * entry_words (limits_of bytes).units) out →
       best' ≡ replicate (work_cells (limits_of bytes)) (of_bits binary64 0) ++ drop (work_cells (limits_of bytes)) best →
       back' ≡ replicate (work_cells (limits_of bytes)) 0 ++ drop (work_cells (limits_of bytes)) back →
-      Decodes bytes best back out (Entries count) best' back' out'
+      Decodes bytes best back out (Ok count) best' back' out'
   decodes_accepted count e counted words values marks =
       let own = own_rules_law bytes (length best) (length back) (length out) e in
       record {

@@ -7,6 +7,8 @@ use mathlib.Core.Path.{◌≡◌, refl, sym, ap, subst, ◌∙◌}
 use lib.ListN.{length, drop}
 use lib.Ieee.{Float, binary32, binary64, of_bits, to_bits}
 use lib.Ieee.Bits.{of_bits-to_bits}
+use Rattle.std.specs.Prelude.{Result}
+use Rattle.limits.specs.declared.refusal.Refusal.{Refusal}
 use Rattle.ieee.specs.Convert.{clamped_log}
 use Rattle.ieee.specs.Inner.Value.{Real}
 use Rattle.limits.specs.Sizes.{entry_words}
@@ -26,7 +28,6 @@ use Rattle.entries.specs.Theory.FullSum.{sum_in}
 use Rattle.entries.proofs.FullSum.{sum_in_law}
 use Rattle.decoding.specs.EntryOf.{entry_for, entry_by}
 use Rattle.decoding.specs.Contract.{Decodes}
-use Rattle.decoding.specs.declared.answer.Decoded.{Decoded}
 use Rattle.decoding.specs.Theory.FullSum.{sum_for, ShowsSum}
 use Rattle.decoding.proofs.Bounded.{phrase_fit}
 use Rattle.decoding.proofs.Calls.{own_rules_law}
@@ -79,7 +80,7 @@ shows bytes accepted at =
 
 -- What every decoder that meets the contract leaves in the output: at each rank an entry that shows its sum.
 pub every_sum :
-    {bytes : List ℕ} {best : List Float} {back out : List ℕ} {answer : Decoded} {best' : List Float} {back' out' : List ℕ} →
+    {bytes : List ℕ} {best : List Float} {back out : List ℕ} {answer : Result ℕ Refusal} {best' : List Float} {back' out' : List ℕ} →
     Decodes bytes best back out answer best' back' out' → refusal_with bytes (length best) (length back) (length out) ≡ none →
     (rank : ℕ) → rank < length (phrase_of bytes).candidates →
     ShowsSum (phrase_of bytes) (drop (rank * entry_words (limits_of bytes).units) out')

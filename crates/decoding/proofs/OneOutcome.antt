@@ -6,37 +6,36 @@ use mathlib.Core.Option.{Option, none, some}
 use mathlib.Core.Path.{◌≡◌, refl, sym, ap, ap₂, ◌∙◌}
 use lib.ListN.{length}
 use lib.Ieee.{Float}
+use Rattle.std.specs.Prelude.{Result, Ok, Err}
 use Rattle.laws.specs.Theory.OneOutcome.{ExactlyOne}
-use Rattle.frames.specs.Outcome.{Outcome, accepted, refused}
+use Rattle.frames.specs.Outcome.{Outcome, accepted, refused, outcome}
 use Rattle.record.specs.Refusals.{refusal_with}
-use Rattle.record.specs.declared.refusal.Refusal.{Refusal}
+use Rattle.limits.specs.declared.refusal.Refusal.{Refusal}
 use Rattle.record.specs.Meaning.{phrase_of}
 use Rattle.record.proofs.Named.{named, named_number}
-use Rattle.decoding.specs.Contract.{outcome, Decodes}
-use Rattle.decoding.specs.declared.answer.Decoded.{Decoded}
-use Rattle.decoding.specs.declared.answer.Decoded.TheVariants.{Entries, Refused}
+use Rattle.decoding.specs.Contract.{Decodes}
 use Rattle.decoding.proofs.Decodes.{decodes_refused, decodes_accepted}
 
 -- ---- an answer is known by its number and value
 
-abbrev given : Outcome ℕ → Decoded
-given (accepted count) = Entries count
-given (refused number) = Refused (named number)
+abbrev given : Outcome ℕ → Result ℕ Refusal
+given (accepted count) = Ok count
+given (refused number) = Err (named number)
 
-given_outcome : (answer : Decoded) → given (outcome answer) ≡ answer
-given_outcome (Entries count) = refl
-given_outcome (Refused q) = ap Refused (named_number q)
+given_outcome : (answer : Result ℕ Refusal) → given (outcome answer) ≡ answer
+given_outcome (Ok count) = refl
+given_outcome (Err q) = ap Err (named_number q)
 
 -- ---- the outcomes of a call
 
-pub record Same (answer answer' : Decoded) (best best' : List Float) (back back' out out' : List ℕ) : Type 0 where
+pub record Same (answer answer' : Result ℕ Refusal) (best best' : List Float) (back back' out out' : List ℕ) : Type 0 where
   pub answers : answer ≡ answer'
   pub values : best ≡ best'
   pub marks : back ≡ back'
   pub words : out ≡ out'
 
 pub one_outcome :
-    (bytes : List ℕ) (best : List Float) (back out : List ℕ) {a₁ a₂ : Decoded} {best₁ best₂ : List Float} {back₁ back₂ out₁ out₂ : List ℕ} →
+    (bytes : List ℕ) (best : List Float) (back out : List ℕ) {a₁ a₂ : Result ℕ Refusal} {best₁ best₂ : List Float} {back₁ back₂ out₁ out₂ : List ℕ} →
     Decodes bytes best back out a₁ best₁ back₁ out₁ → Decodes bytes best back out a₂ best₂ back₂ out₂
     → Same a₁ a₂ best₁ best₂ back₁ back₂ out₁ out₂
 one_outcome bytes best back out {a₁} {a₂} {best₁} {best₂} {back₁} {back₂} {out₁} {out₂} one two =
@@ -68,14 +67,14 @@ one_outcome bytes best back out {a₁} {a₂} {best₁} {best₂} {back₁} {bac
 
 pub some_outcome :
     (bytes : List ℕ) (best : List Float) (back out : List ℕ) →
-    (answer : Decoded) × (best' : List Float) × (back' : List ℕ) × (out' : List ℕ) × Decodes bytes best back out answer best' back' out'
+    (answer : Result ℕ Refusal) × (best' : List Float) × (back' : List ℕ) × (out' : List ℕ) × Decodes bytes best back out answer best' back' out'
 some_outcome bytes best back out = go (refusal_with bytes (length best) (length back) (length out)) refl
   where
     go :
         (o : Option Refusal) → refusal_with bytes (length best) (length back) (length out) ≡ o →
-        (answer : Decoded) × (best' : List Float) × (back' : List ℕ) × (out' : List ℕ) × Decodes bytes best back out answer best' back' out'
-    go none e = (Entries (length (phrase_of bytes).candidates), _, _, _, decodes_accepted bytes best back out _ e refl refl refl refl)
-    go (some q) e = (Refused q, best, back, out, decodes_refused bytes best back out q e)
+        (answer : Result ℕ Refusal) × (best' : List Float) × (back' : List ℕ) × (out' : List ℕ) × Decodes bytes best back out answer best' back' out'
+    go none e = (Ok (length (phrase_of bytes).candidates), _, _, _, decodes_accepted bytes best back out _ e refl refl refl refl)
+    go (some q) e = (Err q, best, back, out, decodes_refused bytes best back out q e)
 
 -- ---- both as one statement
 
@@ -87,7 +86,7 @@ together {a = a} {a'} {b} {b'} {c} {c'} {d} p q r s =
 -- of the answer, the work areas and the output
 pub exactly_one :
     (bytes : List ℕ) (best : List Float) (back out : List ℕ) →
-    ExactlyOne (λ (w : Decoded × List Float × List ℕ × List ℕ). Decodes bytes best back out w.0 w.1 w.2 w.3)
+    ExactlyOne (λ (w : Result ℕ Refusal × List Float × List ℕ × List ℕ). Decodes bytes best back out w.0 w.1 w.2 w.3)
 exactly_one bytes best back out =
     let there = some_outcome bytes best back out in
     record {

@@ -1,32 +1,26 @@
 -- What decoding promises: its answer, the output and both work areas, on every call.
-use Rattle.std.specs.Prelude.{ℕ, ◌*◌, ◌≡◌, List, [], ◌∷◌, ◌++◌, length, replicate, drop, Float}
+use Rattle.std.specs.Prelude.{ℕ, ◌*◌, ◌≡◌, List, [], ◌∷◌, ◌++◌, length, replicate, drop, Float, Result}
 use Rattle.std.proofs.Math.Option.{Option, none, some}
 use Rattle.std.specs.Float.{binary64}
 use Rattle.std.specs.Float.Ieee.{of_bits}
 use Rattle.phrase.specs.Phrase.{Phrase, Candidate}
 use Rattle.paths.specs.Demand.{Answer, Demanded}
-use Rattle.frames.specs.Outcome.{Outcome, accepted, refused}
+use Rattle.frames.specs.Outcome.{Outcome, accepted, refused, outcome}
 use Rattle.entries.specs.Entry.{Entry}
 use Rattle.entries.specs.Words.{all_words}
 use Rattle.entries.specs.Ranking.{ranked, Ranked}
 use Rattle.limits.specs.Sizes.{entry_words, work_cells}
 use Rattle.record.specs.Layout.{limits_of}
-use Rattle.record.specs.Refusals.{number_of, refusal_with}
+use Rattle.limits.specs.Refusals.{number_of}
+use Rattle.record.specs.Refusals.{refusal_with}
 use Rattle.record.specs.Meaning.{phrase_of}
 use Rattle.limits.specs.declared.edition.Limits.{Limits}
-use Rattle.record.specs.declared.refusal.Refusal.{Refusal}
+use Rattle.limits.specs.declared.refusal.Refusal.{Refusal}
 use Rattle.decoding.specs.EntryOf.{entry_for, entries_of}
-use Rattle.decoding.specs.declared.answer.Decoded.{Decoded}
-use Rattle.decoding.specs.declared.answer.Decoded.TheVariants.{Entries, Refused}
 
 -- ---- the answer
 
--- each answer's value and number: "An accepted call returns M." "A refusal returns its number only."
-abbrev pub outcome : Decoded → Outcome ℕ
-outcome (Entries count) = accepted count
-outcome (Refused refusal) = refused (number_of refusal)
-
--- what a call with M candidates is answered with
+-- what a call with M candidates is answered with: "An accepted call returns M." "A refusal returns its number only."
 abbrev pub outcome_of : Option Refusal → ℕ → Outcome ℕ
 outcome_of none count = accepted count
 outcome_of (some refusal) count = refused (number_of refusal)
@@ -68,7 +62,7 @@ pub record Untouched (best : List Float) (back out : List ℕ) (best' : List Flo
 -- ---- every call
 
 -- A call lends the record's bytes, two work areas and the output; the primed lists are what it leaves in them.
-pub record Decodes (bytes : List ℕ) (best : List Float) (back out : List ℕ) (answer : Decoded) (best' : List Float) (back' out' : List ℕ) :
+pub record Decodes (bytes : List ℕ) (best : List Float) (back out : List ℕ) (answer : Result ℕ Refusal) (best' : List Float) (back' out' : List ℕ) :
     Type 0 where
   pub answered : outcome answer
       ≡ outcome_of (refusal_with bytes (length best) (length back) (length out)) (length (phrase_of bytes).candidates)

@@ -1,6 +1,6 @@
 -- Numbers put to the definitions: an exact sum, how far the f64 sum lies from it, and a path that is returned though another's exact sum is
 -- above its own.
-use Prim.Native.Nat.{ℕ, ◌+◌, ◌*◌, ◌^◌}
+use Prim.Native.Nat.{ℕ, ◌*◌, ◌^◌}
 use mathlib.Core.Bool.{true, false, cond}
 use mathlib.Core.List.{List, [], ◌∷◌}
 use mathlib.Core.Path.{◌≡◌, refl}

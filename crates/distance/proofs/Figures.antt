@@ -1,6 +1,6 @@
 -- The figures of a stage's problem are near the exact ones, and its stretches of filler do not overlap: the frames that they count are at
 -- most as many as the mask has, and their nuclei as many as there are. Assumes nothing.
-use Prim.Native.Nat.{ℕ, suc, ◌+◌, ◌-◌, ◌*◌, ◌≤◌}
+use Prim.Native.Nat.{ℕ, suc, ◌+◌, ◌*◌, ◌≤◌}
 use mathlib.Core.List.{List}
 use mathlib.Core.Path.{◌≡◌, ap}
 use native.Mathlib.Nat.{le_trans, le_of_lt, le_of_eq, lt_of_le_of_lt, mul-le-mul_left}

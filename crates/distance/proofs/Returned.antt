@@ -8,6 +8,8 @@ use mathlib.Core.Path.{◌≡◌, sym, subst}
 use lib.Dec.{lit≤}
 use lib.ListN.{length, drop}
 use lib.Ieee.{Float}
+use Rattle.std.specs.Prelude.{Result}
+use Rattle.limits.specs.declared.refusal.Refusal.{Refusal}
 use Rattle.limits.specs.Sizes.{entry_words}
 use Rattle.paths.specs.declared.passes.Pass.{Pass}
 use Rattle.paths.specs.declared.passes.Pass.TheVariants.{NucleiStrict, CountStrict, CountRelaxed, NucleiRelaxed}
@@ -23,7 +25,6 @@ use Rattle.record.specs.Inner.Reading.{candidate_of}
 use Rattle.record.specs.declared.read.Which.TheVariants.{Nuclei, Count}
 use Rattle.entries.specs.Entry.{Entry}
 use Rattle.decoding.specs.Contract.{Meets, Decodes}
-use Rattle.decoding.specs.declared.answer.Decoded.{Decoded}
 use Rattle.decoding.proofs.Bounded.{phrase_fit}
 use Rattle.decoding.proofs.Calls.{own_rules_law}
 use Rattle.decoding.proofs.Demands.{answered}
@@ -78,7 +79,7 @@ module _ (bytes : List ℕ) (accepted : refusal_of bytes ≡ none) where
 
 -- What every decoder that meets the contract leaves in the output of an accepted call: at each rank a candidate's entry, as near as that.
 pub every_entry :
-    {bytes : List ℕ} {best : List Float} {back out : List ℕ} {answer : Decoded} {best' : List Float} {back' out' : List ℕ} →
+    {bytes : List ℕ} {best : List Float} {back out : List ℕ} {answer : Result ℕ Refusal} {best' : List Float} {back' out' : List ℕ} →
     Decodes bytes best back out answer best' back' out' → refusal_with bytes (length best) (length back) (length out) ≡ none →
     (rank : ℕ) → rank < length (phrase_of bytes).candidates →
     ReturnsNear (limits_of bytes).units (phrase_of bytes) (drop (rank * entry_words (limits_of bytes).units) out')

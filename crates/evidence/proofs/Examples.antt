@@ -6,8 +6,7 @@ use mathlib.Core.Path.{◌≡◌, refl}
 use lib.ListN.{replicate}
 use Rattle.laws.specs.Rules.{first_of}
 use Rattle.frames.specs.Outcome.{accepted, refused, any_above}
-use Rattle.frames.specs.declared.list.Nearest.{Nearest}
-use Rattle.frames.specs.declared.list.Nearest.TheVariants.{None, At}
+use Rattle.std.specs.Prelude.{Option, Some, None}
 use Rattle.evidence.specs.Masks.{all_marked}
 use Rattle.evidence.specs.Joins.{joined, joins_of}
 use Rattle.evidence.specs.CreakyTail.{last_pitched, run_from, tail_from, creaky_tail_of}
@@ -42,7 +41,7 @@ joins_late = refl
 -- ---- creaky_tail: frame 1 is the last pitched one, so that the run starts at frame 2
 
 -- vowel speech for so many frames from there on
-abbrev tail : ℕ → Nearest → List ℕ → Bool
+abbrev tail : ℕ → Option ℕ → List ℕ → Bool
 tail frames next pitched = tail_from next pitched (replicate 2 1 ++ replicate frames 1 ++ replicate 9 0) 2
 
 abbrev pitched_two : List ℕ
@@ -54,27 +53,27 @@ unfolding tail_from run_from
 tail_long = refl
 
 -- "the frame after the run is at or past the stop": a run over frames 2 to 6, and the next nucleus at frame 7 and at 8
-tail_before_nucleus : map (λ nucleus. tail 5 (At nucleus) pitched_two) (7 ∷ 8 ∷ []) ≡ false ∷ true ∷ []
+tail_before_nucleus : map (λ nucleus. tail 5 (Some nucleus) pitched_two) (7 ∷ 8 ∷ []) ≡ false ∷ true ∷ []
 unfolding tail_from run_from
 tail_before_nucleus = refl
 
 -- the stop cuts the run: the next nucleus at frame 6 leaves 4 frames
-tail_cut : tail 9 (At 6) pitched_two ≡ false
+tail_cut : tail 9 (Some 6) pitched_two ≡ false
 unfolding tail_from run_from
 tail_cut = refl
 
 -- "or pitched": frame 7 pitched again, with a next nucleus at 12 and with none
-tail_pitched_again : map (λ next. tail 5 next (replicate 2 1 ++ replicate 5 0 ++ replicate 13 1)) (At 12 ∷ None ∷ []) ≡ false ∷ true ∷ []
+tail_pitched_again : map (λ next. tail 5 next (replicate 2 1 ++ replicate 5 0 ++ replicate 13 1)) (Some 12 ∷ None ∷ []) ≡ false ∷ true ∷ []
 unfolding tail_from run_from
 tail_pitched_again = refl
 
 -- "never above that length": a pitch mask of 7 frames ends the run at 7, which joins it to a nucleus far beyond, and to none
-tail_mask_end : map (λ next. tail 9 next (replicate 2 1 ++ replicate 5 0)) (At 4095 ∷ None ∷ []) ≡ false ∷ true ∷ []
+tail_mask_end : map (λ next. tail 9 next (replicate 2 1 ++ replicate 5 0)) (Some 4095 ∷ None ∷ []) ≡ false ∷ true ∷ []
 unfolding tail_from run_from
 tail_mask_end = refl
 
 -- "from the span's start up to but not including its end": frames 1 and 4 are pitched, over spans that hold both, one, none
-tail_last : map (last_pitched (0 ∷ 1 ∷ 0 ∷ 0 ∷ 1 ∷ []) 1) (5 ∷ 4 ∷ 1 ∷ []) ≡ At 4 ∷ At 1 ∷ None ∷ []
+tail_last : map (last_pitched (0 ∷ 1 ∷ 0 ∷ 0 ∷ 1 ∷ []) 1) (5 ∷ 4 ∷ 1 ∷ []) ≡ Some 4 ∷ Some 1 ∷ None ∷ []
 unfolding last_pitched
 tail_last = refl
 

@@ -1,17 +1,19 @@
 // Which edges of a span are joined to a neighbouring syllable, after `joins` of evidence.rs.
 
 ghost use Rattle.std.specs.Prelude.{◌≡◌};
-ghost use Rattle.evidence.specs.Joins.{joined, outcome, joins_of};
+ghost use Rattle.frames.specs.Outcome.{outcome};
+ghost use Rattle.evidence.specs.Joins.{joined, joins_of};
 
 use crate::masks;
 use frames::sizes::MOST_BYTES;
 use limits::common::LAST_FRAME;
+use limits::refusal::Refusal;
 
-#[derive(Clone, Copy)]
-pub enum JoinsAnswer {
-    Joined { start: bool, end: bool },
-    Size,
-    Track,
+// Which edges of a span are joined.
+#[derive(Clone, Copy, Debug, PartialEq, Eq)]
+pub struct Joined {
+    pub start: bool,
+    pub end: bool,
 }
 
 // The frames around an edge: as many before it as after it at voice level, and pitched up to the frame at it.
@@ -21,7 +23,7 @@ const VOICE_FRAMES: usize = 6;
 
 const PITCH_FRAMES: usize = 4;
 
-fn joined(voice: &[u8], pitched: &[u8], edge: u32) -> bool
+fn is_joined(voice: &[u8], pitched: &[u8], edge: u32) -> bool
     ensures { result ≡ joined voice.now pitched.now edge }
 {
     let edge = edge as usize;
@@ -36,17 +38,17 @@ fn joined(voice: &[u8], pitched: &[u8], edge: u32) -> bool
 }
 
 // Which edges of a span the voice runs through, from one syllable straight into the next.
-pub fn joins(voice: &[u8], pitched: &[u8], start: u32, end: u32) -> JoinsAnswer
+pub fn joins(voice: &[u8], pitched: &[u8], start: u32, end: u32) -> Result<Joined, Refusal>
     ensures { outcome result ≡ joins_of voice.now pitched.now start end }
 {
     if (voice.len() > MOST_BYTES) | (pitched.len() > MOST_BYTES) {
-        return JoinsAnswer::Size;
+        return Err(Refusal::Size);
     }
     if masks::unfit(voice) | masks::unfit(pitched) | (start > LAST_FRAME) | (end > LAST_FRAME) {
-        return JoinsAnswer::Track;
+        return Err(Refusal::Track);
     }
-    JoinsAnswer::Joined {
-        start: joined(voice, pitched, start),
-        end: joined(voice, pitched, end),
-    }
+    Ok(Joined {
+        start: is_joined(voice, pitched, start),
+        end: is_joined(voice, pitched, end),
+    })
 }

@@ -8,25 +8,14 @@ ghost use Rattle.frames.specs.Outcome.{any_above};
 pub fn unfit(mask: &[u8]) -> bool
     ensures { result ≡ any_above 1 mask.now }
 {
-    let mut i = 0;
-    while i < mask.len() {
-        if mask[i] > 1 {
-            return true;
-        }
-        i += 1;
-    }
-    false
+    mask.iter().any(|byte| *byte > 1)
 }
 
 // Whether a frame is within the mask and has the mark.
 pub fn marked(mask: &[u8], frame: usize) -> bool
     ensures { result ≡ marked mask.now frame }
 {
-    if frame < mask.len() {
-        mask[frame] == 1
-    } else {
-        false
-    }
+    mask.get(frame).is_some_and(|byte| *byte == 1)
 }
 
 // Whether `count` frames from `first` on all are within the mask and have the mark.
@@ -34,12 +23,5 @@ pub fn all_marked(mask: &[u8], first: usize, count: usize) -> bool
     requires { first + count < 2 ^ 64 }
     ensures { result ≡ all_marked mask.now first count }
 {
-    let mut i = count;
-    while 0 < i {
-        i -= 1;
-        if !marked(mask, first + i) {
-            return false;
-        }
-    }
-    true
+    (first..first + count).all(|frame| marked(mask, frame))
 }

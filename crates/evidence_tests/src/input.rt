@@ -1,147 +1,69 @@
-// Numbers in text.
+// Numbers in text. All other text is skipped.
 
-ghost use Rattle.std.specs.Prelude.{◌≤◌, length};
-ghost use Rattle.io.specs.Counts.{IsPrefixLen};
+ghost use Rattle.std.specs.Prelude.{◌≤◌};
 
-// A number, and where the text goes on.
-#[derive(Clone, Copy)]
-pub(crate) struct Read {
-    pub(crate) value: u32,
-    pub(crate) next: usize,
+// The text that is left.
+#[derive(Drop)]
+pub(crate) struct Numbers<'a> {
+    left: &'a [u8],
 }
 
-fn is_digit(b: u8) -> bool {
-    (48 <= b) & (b <= 57)
+// The digits' number; the highest of a word for any above it.
+fn number_of(digits: &[u8]) -> u32 {
+    digits.iter().fold(
+        0u32,
+        |number, digit| number
+            .saturating_mul(10)
+            .saturating_add(u32::from(*digit & 15)),
+    )
 }
 
-// The first digit from `at` on, or the end of the text.
-fn skip(text: &[u8], at: usize) -> usize {
-    let mut i = at;
-    while i < text.len() {
-        if is_digit(text[i]) {
-            return i;
+impl<'a> Numbers<'a> {
+    pub(crate) fn of(text: &'a [u8]) -> Numbers<'a> {
+        Numbers { left: text }
+    }
+
+    pub(crate) fn next(&mut self) -> Option<u32> {
+        let start = self.left.iter().position(|byte| byte.is_ascii_digit())?;
+        let text = &self.left[start..];
+        let end = text
+            .iter()
+            .position(|byte| !byte.is_ascii_digit())
+            .unwrap_or(text.len());
+        self.left = &text[end..];
+        Some(number_of(&text[..end]))
+    }
+
+    // A figure of a case; 0 where the text has ended.
+    pub(crate) fn figure(&mut self) -> u32 {
+        self.next().unwrap_or(0)
+    }
+
+    // How many of some cells: no more than there are.
+    pub(crate) fn count(&mut self, most: usize) -> usize
+        ensures { result ≤ most }
+    {
+        (self.figure() as usize).min(most)
+    }
+
+    // A list: how many numbers it has, and then those.
+    pub(crate) fn list<'c>(&mut self, cells: &'c mut [u32]) -> &'c [u32] {
+        let len = self.count(cells.len());
+        for i in 0..len {
+            cells[i] = self.figure();
         }
-        i += 1;
+        &cells[..len]
     }
-    i
-}
 
-// One digit more, up to twelve digits.
-fn longer(value: u64, digit: u8) -> u64 {
-    if value > 100000000000 {
-        return value;
-    }
-    if digit < 48 {
-        return value;
-    }
-    let d = digit - 48;
-    value * 10 + d as u64
-}
-
-// The highest number of a word for any above it.
-fn clamped(value: u64) -> u32 {
-    if value < 4294967295 {
-        value as u32
-    } else {
-        4294967295
-    }
-}
-
-// The number whose first digit stands from `at` on; 0 at the end of the text.
-pub(crate) fn number(text: &[u8], at: usize) -> Read {
-    let mut i = skip(text, at);
-    let mut value: u64 = 0;
-    while i < text.len() {
-        let b = text[i];
-        if !is_digit(b) {
-            return Read {
-                value: clamped(value),
-                next: i,
-            };
+    // A mask: how many runs it has, and for each its length and its byte.
+    pub(crate) fn mask<'c>(&mut self, cells: &'c mut [u8]) -> &'c [u8] {
+        let mut len = 0;
+        for _ in 0..self.figure() {
+            let end = len + self.count(cells.len() - len);
+            let byte = self.figure().min(255) as u8;
+            cells[len..end].fill(byte);
+            len = end;
         }
-        value = longer(value, b);
-        i += 1;
-    }
-    Read {
-        value: clamped(value),
-        next: i,
-    }
-}
-
-// How many cells are filled, and where the text goes on.
-#[derive(Clone, Copy)]
-pub(crate) struct Filled {
-    pub(crate) len: usize,
-    pub(crate) next: usize,
-}
-
-fn at_most(n: u32, most: usize) -> usize
-    ensures { result ≤ most }
-{
-    let n = n as usize;
-    if n < most { n } else { most }
-}
-
-fn byte(n: u32) -> u8 {
-    if n < 255 { n as u8 } else { 255 }
-}
-
-// Fills cells with a byte and answers where the filled ones end.
-fn fill(cells: &mut [u8], from: usize, count: u32, value: u8) -> usize
-    requires { from ≤ length cells.old }
-    ensures { result ≤ length cells.new }
-{
-    let end = from + at_most(count, cells.len() - from);
-    let mut i = from;
-    while i < end {
-        cells[i] = value;
-        i += 1;
-    }
-    end
-}
-
-// Reads a mask: how many runs it has, and for each its length and its byte.
-pub(crate) fn mask(text: &[u8], at: usize, cells: &mut [u8]) -> Filled
-    ensures { IsPrefixLen result.len cells.new }
-{
-    let runs = number(text, at);
-    let mut left = runs.value;
-    let mut next = runs.next;
-    let mut len = 0;
-    while 0 < left {
-        let count = number(text, next);
-        let value = number(text, count.next);
-        len = fill(cells, len, count.value, byte(value.value));
-        next = value.next;
-        left -= 1;
-    }
-    Filled { len, next }
-}
-
-// Reads a list: how many numbers it has, and then those.
-pub(crate) fn list(text: &[u8], at: usize, cells: &mut [u32]) -> Filled
-    ensures { IsPrefixLen result.len cells.new }
-{
-    let count = number(text, at);
-    let len = at_most(count.value, cells.len());
-    let mut next = count.next;
-    let mut i = 0;
-    while i < len {
-        let n = number(text, next);
-        cells[i] = n.value;
-        next = n.next;
-        i += 1;
-    }
-    Filled { len, next }
-}
-
-// Reads how many of the cells are lent.
-pub(crate) fn lent(text: &[u8], at: usize, cells: &[u32]) -> Filled
-    ensures { IsPrefixLen result.len cells.now }
-{
-    let count = number(text, at);
-    Filled {
-        len: at_most(count.value, cells.len()),
-        next: count.next,
+        &cells[..len]
     }
 }

@@ -1,17 +1,12 @@
 // Answers in text.
 
-use evidence::evidence::TailAnswer;
-use evidence::joins::JoinsAnswer;
-use rate::duration::RateAnswer;
-use spans::spans::SpansAnswer;
+use evidence::joins::Joined;
+use limits::refusal::Refusal;
 use std::io;
 
-fn refused(rt: &impl Print, number: u32) -> io::Result<()> {
+fn refused(rt: &impl Print, refusal: Refusal) -> io::Result<()> {
+    let number = u32::from(refusal);
     print!(rt; "refused {number}")
-}
-
-fn bit(b: bool) -> u8 {
-    if b { 1 } else { 0 }
 }
 
 pub(crate) fn end_line(rt: &impl Print) -> io::Result<()> {
@@ -35,47 +30,41 @@ fn bits(rt: &impl Print, r: f64) -> io::Result<()> {
     Ok(())
 }
 
-pub(crate) fn rate(rt: &impl Print, answer: RateAnswer) -> io::Result<()> {
+pub(crate) fn rate(rt: &impl Print, answer: Result<f64, Refusal>) -> io::Result<()> {
     match answer {
-        RateAnswer::Seconds(r) => {
+        Ok(r) => {
             print!(rt; "rate ")?;
             bits(rt, r)
         }
-        RateAnswer::Size => refused(rt, 3),
-        RateAnswer::Track => refused(rt, 5),
-        RateAnswer::Cost => refused(rt, 6),
+        Err(refusal) => refused(rt, refusal),
     }
 }
 
-pub(crate) fn spans(rt: &impl Print, answer: SpansAnswer) -> io::Result<()> {
+pub(crate) fn spans(rt: &impl Print, answer: Result<usize, Refusal>) -> io::Result<()> {
     match answer {
-        SpansAnswer::Spans(n) => print!(rt; "spans {n}"),
-        SpansAnswer::Size => refused(rt, 3),
-        SpansAnswer::Track => refused(rt, 5),
-        SpansAnswer::Desk => refused(rt, 11),
+        Ok(count) => print!(rt; "spans {count}"),
+        Err(refusal) => refused(rt, refusal),
     }
 }
 
-pub(crate) fn joins(rt: &impl Print, answer: JoinsAnswer) -> io::Result<()> {
+pub(crate) fn joins(rt: &impl Print, answer: Result<Joined, Refusal>) -> io::Result<()> {
     match answer {
-        JoinsAnswer::Joined { start, end } => {
-            let start = bit(start);
-            let end = bit(end);
+        Ok(joined) => {
+            let start = u8::from(joined.start);
+            let end = u8::from(joined.end);
             print!(rt; "joins {start} {end}")
         }
-        JoinsAnswer::Size => refused(rt, 3),
-        JoinsAnswer::Track => refused(rt, 5),
+        Err(refusal) => refused(rt, refusal),
     }
 }
 
-pub(crate) fn tail(rt: &impl Print, answer: TailAnswer) -> io::Result<()> {
+pub(crate) fn tail(rt: &impl Print, answer: Result<bool, Refusal>) -> io::Result<()> {
     match answer {
-        TailAnswer::Creaky(yes) => {
-            let yes = bit(yes);
-            print!(rt; "creaky {yes}")
+        Ok(creaky) => {
+            let creaky = u8::from(creaky);
+            print!(rt; "creaky {creaky}")
         }
-        TailAnswer::Size => refused(rt, 3),
-        TailAnswer::Track => refused(rt, 5),
+        Err(refusal) => refused(rt, refusal),
     }
 }
 

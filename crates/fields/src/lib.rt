@@ -11,13 +11,46 @@ use limits::edition::{COLUMNS_AT, COUNT_AT, Limits};
 use record::bytes::{byte_at, u32_at};
 use record::layout::Layout;
 
-// Where candidate `i` stands: its entry lies within the record.
-fn candidate_start(bytes: &[u8], limits: Limits, at: Layout, i: usize) -> usize
-    requires candidates_read { CandidatesRead limits (length bytes.now) at }
-    requires i_lt_count { i < at.candidates.count }
-    ensures { (result ≡ candidate_start limits at i) × (result + candidate_bytes limits ≤ length bytes.now) }
-{
-    at.candidates.start + limits.candidate_bytes() * i
+// The candidates of a record, whose entries lie within it.
+#[derive(Clone, Copy)]
+pub struct CandidateList<'a> {
+    pub bytes: &'a [u8],
+    pub limits: Limits,
+    pub at: Layout,
+    ghost candidates_read: { CandidatesRead limits (length bytes.now) at },
+}
+
+impl CandidateList<'_> {
+    // Where the entry of candidate `i` stands.
+    fn start(&self, i: usize) -> usize
+        requires { i < self.now.at.candidates.count }
+        ensures place { result ≡ candidate_start self.now.limits self.now.at i }
+        ensures within { result + candidate_bytes self.now.limits ≤ length self.now.bytes.now }
+    {
+        self.at.candidates.start + self.limits.candidate_bytes() * i
+    }
+
+    pub fn id(&self, i: usize) -> u32
+        requires { i < self.now.at.candidates.count }
+        ensures { result ≡ id_at self.now.limits self.now.bytes.now self.now.at i }
+    {
+        u32_at(self.bytes, self.start(i))
+    }
+
+    pub fn units(&self, i: usize) -> usize
+        requires { i < self.now.at.candidates.count }
+        ensures { result ≡ units_at self.now.limits self.now.bytes.now self.now.at i }
+    {
+        u32_at(self.bytes, self.start(i) + COUNT_AT) as usize
+    }
+
+    pub fn column(&self, i: usize, j: usize) -> usize
+        requires i_lt_count { i < self.now.at.candidates.count }
+        requires j_lt_units { j < self.now.limits.units }
+        ensures { result ≡ column_at self.now.limits self.now.bytes.now self.now.at i j }
+    {
+        byte_at(self.bytes, self.start(i) + COLUMNS_AT + j) as usize
+    }
 }
 
 pub fn id_at(bytes: &[u8], limits: Limits, at: Layout, i: usize) -> u32
@@ -25,7 +58,7 @@ pub fn id_at(bytes: &[u8], limits: Limits, at: Layout, i: usize) -> u32
     requires i_lt_count { i < at.candidates.count }
     ensures { result ≡ id_at limits bytes.now at i }
 {
-    u32_at(bytes, candidate_start(bytes, limits, at, i))
+    CandidateList { bytes, limits, at }.id(i)
 }
 
 pub fn units_at(bytes: &[u8], limits: Limits, at: Layout, i: usize) -> usize
@@ -33,7 +66,7 @@ pub fn units_at(bytes: &[u8], limits: Limits, at: Layout, i: usize) -> usize
     requires i_lt_count { i < at.candidates.count }
     ensures { result ≡ units_at limits bytes.now at i }
 {
-    u32_at(bytes, candidate_start(bytes, limits, at, i) + COUNT_AT) as usize
+    CandidateList { bytes, limits, at }.units(i)
 }
 
 pub fn column_at(bytes: &[u8], limits: Limits, at: Layout, i: usize, j: usize) -> usize
@@ -42,8 +75,5 @@ pub fn column_at(bytes: &[u8], limits: Limits, at: Layout, i: usize, j: usize) -
     requires j_lt_units { j < limits.units }
     ensures { result ≡ column_at limits bytes.now at i j }
 {
-    byte_at(
-        bytes,
-        candidate_start(bytes, limits, at, i) + COLUMNS_AT + j,
-    ) as usize
+    CandidateList { bytes, limits, at }.column(i, j)
 }

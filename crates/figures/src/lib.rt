@@ -10,49 +10,26 @@ ghost use Rattle.record.specs.Format.{costs_bytes, table_bytes};
 ghost use Rattle.limits.specs.Common.{million, thousand};
 ghost use Rattle.record.specs.Conditions.{f32_at, f64_at, is_duration, bad_scores, bad_figures, bad_table, bad_cost};
 
-use ieee::range::{nonpositive64, within32, within64};
+use ieee::range::{nonpositive64, within};
 use limits::common::DURATIONS;
-use record::bytes::{u32_at, u64_at};
+use record::bytes::{numbers_at, u32_at, u64_at};
 use record::format::{FIRST_TABLE_AT, INSERTION_AT, SECOND_TABLE_AT, UNVOICED_AT};
 use record::layout::Layout;
 
 // the bits of 1,000,000 and of 1,000
-const MILLION_32: u32 = 0x4974_2400;
+const MILLION_32: u64 = 0x4974_2400;
 
 const MILLION_64: u64 = 0x412e_8480_0000_0000;
 
 const THOUSAND_64: u64 = 0x408f_4000_0000_0000;
-
-fn score_fits(bytes: &[u8], at: usize) -> bool
-    requires { at + 4 ≤ length bytes.now }
-    ensures { result ≡ within million (f32_at bytes.now at) }
-{
-    within32(u32_at(bytes, at), MILLION_32)
-}
-
-fn cost_fits(bytes: &[u8], at: usize) -> bool
-    requires { at + 8 ≤ length bytes.now }
-    ensures { result ≡ within thousand (f64_at bytes.now at) }
-{
-    within64(u64_at(bytes, at), THOUSAND_64)
-}
-
-fn duration_fits(bytes: &[u8], at: usize) -> bool
-    requires { at + 8 ≤ length bytes.now }
-    ensures { result ≡ is_duration (f64_at bytes.now at) }
-{
-    nonpositive64(u64_at(bytes, at), MILLION_64)
-}
 
 fn bad_scores(bytes: &[u8], start: usize, entries: usize) -> bool
     requires { start + 4 * entries ≤ length bytes.now }
     ensures { result ≡ bad_scores bytes.now start entries }
 {
     let mut bad = false;
-    let mut i = 0;
-    while i < entries {
-        bad = bad | !score_fits(bytes, start + 4 * i);
-        i += 1;
+    for score in numbers_at(bytes, start, entries) {
+        bad |= !within(u32::from_le_bytes(*score), MILLION_32);
     }
     bad
 }
@@ -61,9 +38,9 @@ fn bad_figures(bytes: &[u8], costs: usize) -> bool
     requires { costs + costs_bytes ≤ length bytes.now }
     ensures { result ≡ bad_figures bytes.now costs }
 {
-    !cost_fits(bytes, costs)
-        | !cost_fits(bytes, costs + INSERTION_AT)
-        | !score_fits(bytes, costs + UNVOICED_AT)
+    !within(u64_at(bytes, costs), THOUSAND_64)
+        | !within(u64_at(bytes, costs + INSERTION_AT), THOUSAND_64)
+        | !within(u32_at(bytes, costs + UNVOICED_AT), MILLION_32)
 }
 
 fn bad_table(bytes: &[u8], table: usize) -> bool
@@ -71,10 +48,8 @@ fn bad_table(bytes: &[u8], table: usize) -> bool
     ensures { result ≡ bad_table bytes.now table }
 {
     let mut bad = false;
-    let mut i = 0;
-    while i < DURATIONS {
-        bad = bad | !duration_fits(bytes, table + 8 * i);
-        i += 1;
+    for duration in numbers_at(bytes, table, DURATIONS) {
+        bad |= !nonpositive64(u64::from_le_bytes(*duration), MILLION_64);
     }
     bad
 }

@@ -1,12 +1,12 @@
 -- What a walk for a number above a limit finds.
 use Prim.Native.Nat.{ℕ, ◌+◌, ◌≤◌, ◌<◌}
-use mathlib.Core.Bool.{true, false, ◌||◌}
-use mathlib.Core.Path.{◌≡◌, ap, ◌∙◌}
+use mathlib.Core.Bool.{false, ◌||◌}
+use mathlib.Core.Path.{◌≡◌, ap}
 use mathlib.Core.List.{List, Memᴰ}
 use native.Mathlib.Omega.{arith}
 use lib.Dec.{ltb}
 use lib.ListN.{length, get_or, drop, drop_of_length-le}
-use borrow.Author.Tests.{lt-ltb, le-ltb, ltb-false}
+use borrow.Author.Tests.{ltb-false}
 use Rattle.laws.proofs.Lists.{left_from}
 use Rattle.laws.proofs.Choices.{neither_left, neither_right}
 use Rattle.frames.specs.Outcome.{any_above}
@@ -15,12 +15,6 @@ module _ (limit : ℕ) (xs : List ℕ) (i : ℕ) where
   pub any_here : i < length xs → any_above limit (drop i xs) ≡ (ltb limit (get_or xs i 0) || any_above limit (drop (i + 1) xs))
   unfolding any_above
   any_here h = ap (any_above limit) (left_from xs i 0 h)
-
-  pub any_found : i < length xs → limit < get_or xs i 0 → any_above limit (drop i xs) ≡ true
-  any_found h above = any_here h ∙ rw (lt-ltb limit (get_or xs i 0) above)
-
-  pub any_more : i < length xs → get_or xs i 0 ≤ limit → any_above limit (drop i xs) ≡ any_above limit (drop (i + 1) xs)
-  any_more h below = any_here h ∙ rw (le-ltb limit (get_or xs i 0) below)
 
   pub any_end : length xs ≤ i → any_above limit (drop i xs) ≡ false
   unfolding any_above

@@ -10,7 +10,11 @@ use Rattle.laws.specs.Rules.{Rule, rule, first_of}
 use Rattle.laws.specs.Theory.OneOutcome.{ExactlyOne}
 use Rattle.laws.proofs.Rules.{Says, given_under}
 use Rattle.laws.proofs.OneOutcome.{one_meaning}
-use Rattle.frames.specs.Outcome.{Outcome, accepted, refused, unless, checked}
+use Rattle.std.specs.Prelude.{Result, Ok, Err}
+use Rattle.limits.specs.Refusals.{number_of}
+use Rattle.limits.specs.declared.refusal.Refusal.{Refusal}
+use Rattle.limits.proofs.Named.{named, named_number}
+use Rattle.frames.specs.Outcome.{Outcome, accepted, refused, outcome, unless, checked}
 
 -- ---- rule by rule
 
@@ -30,6 +34,10 @@ unfolding first_of
 answers e = ap accepted e
 
 -- ---- both ways
+
+-- a rule whose number is that of a refusal
+pub refusing : (n : ℕ) {b : Bool} → number_of (named n) ≡ n → Says (λ (m : ℕ). number_of (named m) ≡ m) (rule n b)
+refusing n e = record { says = λ held. e }
 
 module _ {A : Type 0} where
   unfoldable was_refused : Outcome A → Bool
@@ -66,13 +74,18 @@ module _ {A : Type 0} where
       λ h. ap (λ (o : Option ℕ). unless o a) h.0 ∙ ap accepted h.1,
     )
 
-    -- where each rule's number is that of an answer, and an answer is known by its number and value, exactly one answer is right
-    pub one_answer :
-        {B : Type 0} (outcome : B → Outcome A) (given : Outcome A → B) → ((answer : B) → given (outcome answer) ≡ answer) →
-        Each (Says (λ (n : ℕ). outcome (given (refused n)) ≡ refused n)) rules → outcome (given (accepted a)) ≡ accepted a →
-        ExactlyOne (λ (answer : B). outcome answer ≡ checked rules a)
-    one_answer outcome given known numbers value = one_meaning outcome given known (checked rules a) (go (first_of rules) refl)
+    -- where each rule's number is that of a refusal, exactly one answer is right
+    pub one_answer : Each (Says (λ (n : ℕ). number_of (named n) ≡ n)) rules → ExactlyOne (λ (answer : Result A Refusal). outcome answer ≡ checked rules a)
+    one_answer numbers = one_meaning outcome answer_of answer_known (checked rules a) (go (first_of rules) refl)
       where
-        go : (o : Option ℕ) → first_of rules ≡ o → outcome (given (unless o a)) ≡ unless o a
-        go none e = value
-        go (some n) e = given_under rules numbers e
+        answer_of : Outcome A → Result A Refusal
+        answer_of (accepted b) = Ok b
+        answer_of (refused n) = Err (named n)
+
+        answer_known : (answer : Result A Refusal) → answer_of (outcome answer) ≡ answer
+        answer_known (Ok b) = refl
+        answer_known (Err refusal) = ap Err (named_number refusal)
+
+        go : (o : Option ℕ) → first_of rules ≡ o → outcome (answer_of (unless o a)) ≡ unless o a
+        go none e = refl
+        go (some n) e = ap refused (given_under rules numbers e)

@@ -1,15 +1,6 @@
 -- A loop that walks a list: what is passed and what is ahead, together.
-use Prim.Native.Nat.{ℕ, suc, ◌+◌}
 use mathlib.Core.Bool.{Bool, true, false, ◌||◌}
 use mathlib.Core.Path.{◌≡◌, sym, ◌∙◌}
-use native.Mathlib.Omega.{arith}
-
--- n in all, some of them counted and some ahead
-pub all_counted : (n counted ahead : ℕ) → n ≡ counted + ahead → ahead ≡ 0 → counted ≡ n
-all_counted n counted ahead e none = omega arith
-
-pub one_counted : (n counted ahead next : ℕ) → n ≡ counted + ahead → ahead ≡ suc next → n ≡ counted + 1 + next
-one_counted n counted ahead next e more = omega arith
 
 -- a test of all numbers is one of those passed and one of those ahead: one more passed, and none ahead
 pub one_tested : (all passed ahead here next : Bool) → all ≡ (passed || ahead) → ahead ≡ (here || next) → all ≡ ((passed || here) || next)

@@ -1,11 +1,18 @@
 -- How an entry answers: its values, or the number of a refusal (document 01, "What the decoder says no with").
-use Rattle.std.specs.Prelude.{ℕ, Bool, false, ◌||◌, List, [], ◌∷◌, ltb}
+use Rattle.std.specs.Prelude.{ℕ, Bool, false, ◌||◌, List, [], ◌∷◌, ltb, Result, Ok, Err}
 use Rattle.std.proofs.Math.Option.{Option, none, some}
+use Rattle.limits.specs.Refusals.{number_of}
+use Rattle.limits.specs.declared.refusal.Refusal.{Refusal}
 use Rattle.laws.specs.Rules.{Rule, first_of}
 
 pub data Outcome (A : Type 0) : Type 0 where
   accepted : A → Outcome A
   refused : ℕ → Outcome A
+
+-- what the code answers says that much
+abbrev pub outcome : {A : Type 0} → Result A Refusal → Outcome A
+outcome (Ok a) = accepted a
+outcome (Err refusal) = refused (number_of refusal)
 
 -- an entry's values, unless its rules give the number of a refusal
 abbrev pub unless : {A : Type 0} → Option ℕ → A → Outcome A

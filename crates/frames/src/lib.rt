@@ -6,3 +6,4 @@ pub mod list;
 pub mod sizes;
 pub mod span;
 pub mod stage;
+pub mod unit;

@@ -8,6 +8,7 @@ use lib.ListN.{length, replicate, drop}
 use lib.IntN.{negsuc}
 use lib.Count.{count_trailing_zeros}
 use lib.Ieee.{Float, fin, binary32, binary64, to_bits, of_bits, of_fields}
+use Rattle.std.specs.Prelude.{Result}
 use Rattle.limits.specs.Common.{absent}
 use Rattle.laws.specs.Listed.{listed}
 use Rattle.ieee.specs.Convert.{clamped_log}
@@ -15,7 +16,7 @@ use Rattle.ieee.specs.TotalOrder.{total_before}
 use Rattle.paths.specs.declared.passes.Strictness.TheVariants.{Strict}
 use Rattle.paths.specs.Anchors.{Anchor}
 use Rattle.paths.specs.Units.{admits_unit}
-use Rattle.frames.specs.Outcome.{accepted}
+use Rattle.frames.specs.Outcome.{accepted, outcome}
 use Rattle.spans.specs.Spans.{spans_of}
 use Rattle.rate.specs.Rate.{rate}
 use Rattle.ieee.proofs.ConvertExamples as convert-examples
@@ -33,15 +34,14 @@ use Rattle.record.specs.Conditions.{short_desk}
 use Rattle.record.specs.Refusals.{refusal_with}
 use Rattle.record.specs.Meaning.{phrase_of}
 use Rattle.sample.specs.Sample.{sample}
-use Rattle.record.specs.declared.refusal.Refusal.{Refusal}
-use Rattle.record.specs.declared.refusal.Refusal.TheVariants.{Desk}
+use Rattle.limits.specs.declared.refusal.Refusal.{Refusal}
+use Rattle.limits.specs.declared.refusal.Refusal.TheVariants.{Desk}
 use Rattle.record.proofs.Answers.{desk_last}
 use Rattle.sample.proofs.SamplePhrase as sample-record
 use Rattle.entries.specs.Words.{all_words}
 use Rattle.entries.specs.Ranking.{ranked, rank_onto}
 use Rattle.decoding.specs.EntryOf.{entry_of, entries_of}
-use Rattle.decoding.specs.Contract.{outcome, outcome_of, Decodes}
-use Rattle.decoding.specs.declared.answer.Decoded.{Decoded}
+use Rattle.decoding.specs.Contract.{outcome_of, Decodes}
 use Rattle.decoding.proofs.Examples.{worked_entry, nought, stage_of, candidate, zero_phrase}
 
 -- ---- "this phrase": the sample, from its 1,376 bytes to the words of the listing
@@ -81,7 +81,7 @@ module _ (best : List Float) (back out : List ℕ)
 
   -- and every decoder that meets the contract answers 2 and writes these words
   pub sample_decoded :
-      {answer : Decoded} {best' : List Float} {back' out' : List ℕ} → Decodes sample best back out answer best' back' out' →
+      {answer : Result ℕ Refusal} {best' : List Float} {back' out' : List ℕ} → Decodes sample best back out answer best' back' out' →
       (outcome answer ≡ accepted 2) × (out' ≡ sample_words ++ drop 108 out)
   unfolding worked_words sample
   sample_decoded decodes = (

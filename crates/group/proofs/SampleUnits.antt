@@ -4,11 +4,12 @@ use native.Mathlib.Omega.{arith}
 use mathlib.Core.Path.{◌≡◌, refl, ap, subst}
 use lib.Dec.{T, lit≤}
 use lib.ListN.{length, take}
+use Rattle.std.specs.Prelude.{Some, None, Ok, Err}
 use Rattle.limits.specs.Edition.{numbers_of}
 use Rattle.record.specs.Layout.{limits_of}
 use Rattle.record.specs.Meaning.{phrase_of}
 use Rattle.record.specs.declared.read.Which.TheVariants.{Nuclei, Count}
-use Rattle.record.specs.declared.refusal.Refusal.TheVariants.{Stub}
+use Rattle.limits.specs.declared.refusal.Refusal.TheVariants.{Stub}
 use Rattle.sample.specs.Sample.{sample}
 use Rattle.sample.proofs.SamplePhrase as sample-record
 use Rattle.paths.specs.declared.passes.Strictness.{Strictness}
@@ -20,7 +21,6 @@ use Rattle.paths.specs.Path.{begin, unit, count, end, begins, units, HasPath}
 use Rattle.paths.proofs.Counts.{fewer_than_boundaries, bare_path}
 use Rattle.most_units.specs.Most.{paths_of, Most}
 use Rattle.most_units.specs.Answers.{Answers, is_refused, is_counted}
-use Rattle.most_units.specs.declared.answer.MostUnits.TheVariants.{NoPath, Units, Refused}
 use Rattle.most_units.proofs.OneAnswer.{lacking_stage}
 
 abbrev problem : Strictness → Problem
@@ -49,13 +49,13 @@ sample_most strictness = record {
     some = omega (arith, two)
 
 -- one unit fits, strict or relaxed
-sample_one : (strictness : Strictness) → Answers sample Nuclei strictness (Units 1)
+sample_one : (strictness : Strictness) → Answers sample Nuclei strictness (Ok (Some 1))
 sample_one strictness = is_counted sample-record.accepted (sample_most strictness)
 
 -- the record lacks the added stage
-sample_lacks : (strictness : Strictness) → Answers sample Count strictness NoPath
+sample_lacks : (strictness : Strictness) → Answers sample Count strictness (Ok None)
 sample_lacks strictness = lacking_stage sample sample-record.accepted sample-record.anchors strictness
 
 -- its first 63 bytes are refused
-sample_cut : (strictness : Strictness) → Answers (take 63 sample) Nuclei strictness (Refused Stub)
+sample_cut : (strictness : Strictness) → Answers (take 63 sample) Nuclei strictness (Err Stub)
 sample_cut strictness = is_refused sample-record.cut

@@ -8,19 +8,19 @@ use borrow.Author.Tests.{eqb-false}
 use lib.Dec.{lit≤}
 use lib.ListN.{length, get_or, replicate}
 use lib.Ieee.{Float}
+use Rattle.std.specs.Prelude.{Result, Err}
+use Rattle.limits.specs.declared.refusal.Refusal.{Refusal}
 use Rattle.frames.specs.Outcome.{Outcome, accepted, refused}
 use Rattle.phrase.specs.Phrase.{Candidate}
 use Rattle.record.specs.Layout.{limits_of}
 use Rattle.record.specs.Conditions.{short_desk}
 use Rattle.record.specs.Meaning.{phrase_of}
 use Rattle.sample.specs.Sample.{sample}
-use Rattle.record.specs.declared.refusal.Refusal.TheVariants.{Track}
+use Rattle.limits.specs.declared.refusal.Refusal.TheVariants.{Track}
 use Rattle.sample.proofs.SamplePhrase as sample-record
 use Rattle.entries.specs.Entry.{Entry}
 use Rattle.decoding.specs.EntryOf.{entry_of}
 use Rattle.decoding.specs.Contract.{Meets, Decodes}
-use Rattle.decoding.specs.declared.answer.Decoded.{Decoded}
-use Rattle.decoding.specs.declared.answer.Decoded.TheVariants.{Refused}
 use Rattle.decoding.proofs.Bounded.{phrase_fit}
 use Rattle.decoding.proofs.Demands.{same_pass}
 use Rattle.group.proofs.Group.{worked_words, sample_candidates_law, sample_decoded}
@@ -33,12 +33,12 @@ figure (refused n) = n
 says_5 :
     (best : List Float) (back out : List ℕ) {best' : List Float} {back' out' : List ℕ} →
     short_desk (limits_of sample) 2 (length best) (length back) (length out) ≡ false →
-    Decodes sample best back out (Refused Track) best' back' out' → ⊥
+    Decodes sample best back out (Err Track) best' back' out' → ⊥
 says_5 best back out long decodes = eqb-false 5 0 refl (ap figure (sample_decoded best back out long decodes).0)
 
 -- "One that returns success over untouched words"
 untouched :
-    (best : List Float) (back : List ℕ) {answer : Decoded} {best' : List Float} {back' : List ℕ} →
+    (best : List Float) (back : List ℕ) {answer : Result ℕ Refusal} {best' : List Float} {back' : List ℕ} →
     short_desk (limits_of sample) 2 (length best) (length back) 108 ≡ false →
     Decodes sample best back (replicate 108 0) answer best' back' (replicate 108 0) → ⊥
 untouched best back long decodes =

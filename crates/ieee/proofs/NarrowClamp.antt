@@ -1,51 +1,30 @@
 -- What is clamped to ±1,000,000 is finite, and stays so when it is narrowed.
-use Rattle.std.proofs.Common.{◌≡◌, ℕ, ◌*◌, ◌≤◌, Bool, true, false, cond, not, ◌&&◌, ◌||◌, T, eqb, ltb, ℤ, pos, sym, refl, ap, ◌∙◌, arith, lit≤, nltb→le, eq-eqb}
-use mathlib.Core.Bool.{beq}
-use lib.Ieee.{Float, nan, inf, fin, binary32, binary64, up, down, is_nan, lt, eq, ne, neg, of_bits}
+use Rattle.std.proofs.Common.{◌≡◌, ℕ, ◌*◌, ◌≤◌, Bool, true, false, cond, not, T, ltb, ℤ, pos, refl, arith, lit≤, nltb→le}
+use Rattle.std.specs.Float.{float_clamp}
+use lib.Ieee.{Float, nan, inf, fin, binary32, binary64, up, down, is_nan, lt, neg, of_bits}
 use lib.Ieee.Fits.{down_pos}
 use Rattle.laws.proofs.Choices.{taken, passed}
 use Rattle.ieee.specs.Inner.Value.{Within}
 use Rattle.ieee.specs.Convert.{narrowed, lowest, highest, clamped, clamped_log}
 use Rattle.ieee.proofs.Magnitude.{round_within}
 
--- ---- a NaN, and nothing else, differs from itself
-same_sign : (s : Bool) → beq s s ≡ true
-same_sign true = refl
-same_sign false = refl
-
-pub nan_test : (v : Float) → is_nan v ≡ ne v v
-unfolding is_nan ne eq
-nan_test nan = refl
-nan_test (inf s) = ap not (sym (same_sign s))
-nan_test (fin s m e) =
-    let a = m * up e * down e in
-    sym (ap (λ (b : Bool). not (b && (beq s s || eqb a 0))) (eq-eqb a a refl) ∙ ap (λ (b : Bool). not (b || eqb a 0)) (same_sign s))
-
--- ---- the four cases of `clamped`, and its bounds as the code has them
+-- ---- the cases of `clamped`, and its bounds as the code has them
 pub lowest_is : neg (of_bits binary64 0x412e848000000000) ≡ lowest
 unfolding neg of_bits
 lowest_is = refl
 
-pub highest_is : of_bits binary64 0x412e848000000000 ≡ highest
+highest_is : of_bits binary64 0x412e848000000000 ≡ highest
 unfolding of_bits
 highest_is = refl
 
 module _ (v : Float) where
-  pub at_nan : is_nan v ≡ true → lowest ≡ clamped v
+  pub clamped_nan : is_nan v ≡ true → lowest ≡ clamped v
   unfolding clamped
-  at_nan h = taken _ h
+  clamped_nan h = taken _ h
 
-  pub at_lowest : is_nan v ≡ false → lt v lowest ≡ true → lowest ≡ clamped v
+  pub clamped_number_is : is_nan v ≡ false → float_clamp v (neg (of_bits binary64 0x412e848000000000)) (of_bits binary64 0x412e848000000000) ≡ clamped v
   unfolding clamped
-  at_lowest h l = passed _ h (taken _ l)
-
-  pub at_highest : is_nan v ≡ false → lt v lowest ≡ false → lt highest v ≡ true → highest ≡ clamped v
-  unfolding clamped
-  at_highest h l g = passed _ h (passed _ l (taken _ g))
-
-  pub between : is_nan v ≡ false → lt v lowest ≡ false → lt highest v ≡ false → v ≡ clamped v
-  unfolding clamped
-  between h l g = passed _ h (passed _ l (passed _ g refl))
+  clamped_number_is h = rw (lowest_is, highest_is) (passed _ h refl)
 
 -- ---- finite, and 1,000,000 in size at most
 abbrev Small : Float → Type 0

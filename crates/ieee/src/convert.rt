@@ -1,5 +1,5 @@
-// f64 and f32, after `clamp_log` of tonekit-decode's lib.rs, Rust's `f64::from` and its `as f32`. Rattle's own
-// `as f32` is defined only where it loses nothing, so narrowing works on bit patterns.
+// f64 and f32, after `clamp_log` of tonekit-decode's lib.rs, Rust's `f64::from` and its `as f32`. Narrowing works on IEEE bits, as
+// document 01 has it, and not by std's `nearest_f64_to_f32`.
 
 ghost use Rattle.std.specs.Prelude.{◌≡◌, ◌^◌, ◌<◌, ◌≤◌, not, T, from_bits, is_nan, to_bits};
 ghost use Rattle.std.specs.Float.{binary32, binary64};
@@ -7,10 +7,7 @@ ghost use Rattle.std.specs.Float.Ieee.Nearest.{closest};
 ghost use Rattle.ieee.specs.Convert.{narrowed, clamped};
 ghost use Rattle.ieee.specs.Inner.Conversions.{Narrowed, ClampedLog};
 
-// The weight of the sign's bit.
-const SIGN_64: u64 = 0x8000_0000_0000_0000;
-
-const SIGN_32: u64 = 0x8000_0000;
+use crate::sign::{SIGN_32, SIGN_64};
 
 // The weight of the leading digit, which a pattern does not write, and of the exponent's field.
 const LEADING_64: u64 = 0x0010_0000_0000_0000;
@@ -81,7 +78,7 @@ pub fn narrow(x: f64) -> f32
     ensures { Narrowed x result }
 {
     let bits = f64::to_bits(x);
-    let pattern = bits / SIGN_64 * SIGN_32 + narrow_magnitude(bits % SIGN_64);
+    let pattern = bits / SIGN_64 * (SIGN_32 as u64) + narrow_magnitude(bits % SIGN_64);
     f32::from_bits(pattern as u32)
 }
 
@@ -89,14 +86,10 @@ pub fn narrow(x: f64) -> f32
 fn clamp(v: f64) -> f64
     ensures { result ≡ clamped v }
 {
-    if v != v {
+    if v.is_nan() {
         -LOG_CLAMP
-    } else if v < -LOG_CLAMP {
-        -LOG_CLAMP
-    } else if v > LOG_CLAMP {
-        LOG_CLAMP
     } else {
-        v
+        v.clamp(-LOG_CLAMP, LOG_CLAMP)
     }
 }
 

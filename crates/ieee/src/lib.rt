@@ -5,4 +5,5 @@
 
 pub mod convert;
 pub mod range;
+mod sign;
 pub mod total_order;

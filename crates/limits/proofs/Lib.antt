@@ -1,3 +1,4 @@
 -- What is shown of this layer's definitions.
 pub mod Editions
 pub mod Figures
+pub mod Named

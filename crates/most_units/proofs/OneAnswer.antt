@@ -6,6 +6,7 @@ use mathlib.Core.Bool.{Bool, cond}
 use mathlib.Core.List.{List, [], ◌∷◌}
 use mathlib.Core.Logic.{◌↔◌}
 use mathlib.Core.Option.{Option, none, some, some-ne-none}
+use Rattle.std.specs.Prelude.{Option as Optional, Some, None, Result, Ok, Err}
 use mathlib.Core.Path.{◌≡◌, refl, sym, ap, subst, ◌∙◌}
 use borrow.Author.Tests.{ne_eqb}
 use lib.Dec.{eqb}
@@ -25,8 +26,8 @@ use Rattle.record.specs.Refusals.{refusal_of}
 use Rattle.record.specs.Inner.Accepted.{Laid}
 use Rattle.record.specs.declared.read.Which.{Which}
 use Rattle.record.specs.declared.read.Which.TheVariants.{Count}
-use Rattle.record.specs.declared.refusal.Refusal.{Refusal}
-use Rattle.record.specs.declared.refusal.Refusal.TheVariants.{Stub, Edition, Size, Reach, Track, Cost, Bare, Twice, Units as BadUnits, Column, Desk}
+use Rattle.limits.specs.declared.refusal.Refusal.{Refusal}
+use Rattle.limits.specs.declared.refusal.Refusal.TheVariants.{Stub, Edition, Size, Reach, Track, Cost, Bare, Twice, Units as BadUnits, Column, Desk}
 use Rattle.record.proofs.Accepted.{fit, own_moderate}
 use Rattle.record.proofs.Given.{own_under}
 use Rattle.record.proofs.Named.{named}
@@ -34,8 +35,6 @@ use Rattle.prepare.proofs.Parts.{boundaries_fit}
 use Rattle.most_units.specs.Most.{paths_of, Most}
 use Rattle.most_units.specs.Answers.{Answers, is_refused, no_boundary, is_counted, no_path_number, number_for}
 use Rattle.most_units.specs.Inner.Last.{LastReached}
-use Rattle.most_units.specs.declared.answer.MostUnits.{MostUnits}
-use Rattle.most_units.specs.declared.answer.MostUnits.TheVariants.{NoPath, Units, Refused}
 use Rattle.most_units.proofs.Largest.{one_most, some_boundary, one_boundary, last_most}
 use Rattle.most_units.proofs.Words.{starts_first}
 
@@ -73,18 +72,18 @@ module _ (bytes : List ℕ) (which : Which) (strictness : Strictness) where
       )
 
   answer : (refusal : Option Refusal) → refusal_of bytes ≡ refusal → (l : List ℕ) → stage.boundaries ≡ l
-      → (a : MostUnits) × Answers bytes which strictness a
-  answer (some refusal) e l f = (Refused refusal, is_refused e)
-  answer none e [] f = (NoPath, no_boundary e f)
-  answer none e (frame ∷ l) f = let found = counted e (omega (arith, ap length f)) in (Units found.0, is_counted e found.1)
+      → (a : Result (Optional ℕ) Refusal) × Answers bytes which strictness a
+  answer (some refusal) e l f = (Err refusal, is_refused e)
+  answer none e [] f = (Ok None, no_boundary e f)
+  answer none e (frame ∷ l) f = let found = counted e (omega (arith, ap length f)) in (Ok (Some found.0), is_counted e found.1)
 
   -- ---- one answer
 
-  abbrev refused_by : Option Refusal → MostUnits
-  refused_by none = NoPath
-  refused_by (some refusal) = Refused refusal
+  abbrev refused_by : Option Refusal → Result (Optional ℕ) Refusal
+  refused_by none = Ok None
+  refused_by (some refusal) = Err refusal
 
-  same_answer : {a b : MostUnits} → Answers bytes which strictness a → Answers bytes which strictness b → a ≡ b
+  same_answer : {a b : Result (Optional ℕ) Refusal} → Answers bytes which strictness a → Answers bytes which strictness b → a ≡ b
   same_answer (is_refused e) (is_refused f) = ap refused_by (sym e ∙ f)
   same_answer (is_refused e) (no_boundary f g) = absurd (some-ne-none _ (sym e ∙ f))
   same_answer (is_refused e) (is_counted f m) = absurd (some-ne-none _ (sym e ∙ f))
@@ -93,38 +92,38 @@ module _ (bytes : List ℕ) (which : Which) (strictness : Strictness) where
   same_answer (no_boundary e g) (is_counted f m) = absurd (omega (arith, some_boundary m, ap length g))
   same_answer (is_counted e m) (is_refused f) = absurd (some-ne-none _ (sym f ∙ e))
   same_answer (is_counted e m) (no_boundary f g) = absurd (omega (arith, some_boundary m, ap length g))
-  same_answer (is_counted e m) (is_counted f n) = ap Units (one_most m n)
+  same_answer (is_counted e m) (is_counted f n) = ap (λ (units : ℕ). Ok (Some units)) (one_most m n)
 
-  pub one_answer : ExactlyOne (λ (a : MostUnits). Answers bytes which strictness a)
+  pub one_answer : ExactlyOne (λ (a : Result (Optional ℕ) Refusal). Answers bytes which strictness a)
   one_answer = record {
     some_outcome = answer (refusal_of bytes) refl stage.boundaries refl;
     one_outcome = λ a b p q. same_answer p q;
   }
 
   -- "no path" exactly where the stage of an accepted record has no boundary
-  pub no_path_exactly : refusal_of bytes ≡ none → {a : MostUnits} → Answers bytes which strictness a
-      → (a ≡ NoPath) ↔ (stage.boundaries ≡ [])
+  pub no_path_exactly : refusal_of bytes ≡ none → {a : Result (Optional ℕ) Refusal} → Answers bytes which strictness a
+      → (a ≡ Ok None) ↔ (stage.boundaries ≡ [])
   no_path_exactly accepted {a} answers = (
     λ e. go (subst (Answers bytes which strictness) e answers),
     λ e. same_answer answers (no_boundary accepted e),
   )
     where
-      go : Answers bytes which strictness NoPath → stage.boundaries ≡ []
+      go : Answers bytes which strictness (Ok None) → stage.boundaries ≡ []
       go (no_boundary _ e) = e
 
   -- one boundary gives 0
-  pub one_boundary_0 : refusal_of bytes ≡ none → length stage.boundaries ≡ 1 → Answers bytes which strictness (Units 0)
+  pub one_boundary_0 : refusal_of bytes ≡ none → length stage.boundaries ≡ 1 → Answers bytes which strictness (Ok (Some 0))
   one_boundary_0 accepted one =
       is_counted accepted (one_boundary (paths_of (phrase_of bytes) stage strictness) one (limits_of bytes).units)
 
 -- ---- the number of an answer
 
 -- the answer that a number stands for
-abbrev answer_of : ℤ → MostUnits
-answer_of (pos n) = cond (eqb n no_path_number) NoPath (Units n)
-answer_of (negsuc n) = Refused (named (suc n))
+abbrev answer_of : ℤ → Result (Optional ℕ) Refusal
+answer_of (pos n) = cond (eqb n no_path_number) (Ok None) (Ok (Some n))
+answer_of (negsuc n) = Err (named (suc n))
 
-told : (q : Refusal) → answer_of (number_for (Refused q)) ≡ Refused q
+told : (q : Refusal) → answer_of (number_for (Err q)) ≡ Err q
 told Stub = refl
 told Edition = refl
 told Size = refl
@@ -137,26 +136,26 @@ told BadUnits = refl
 told Column = refl
 told Desk = refl
 
-known : {bytes : List ℕ} {which : Which} {strictness : Strictness} {a : MostUnits} → Answers bytes which strictness a
+known : {bytes : List ℕ} {which : Which} {strictness : Strictness} {a : Result (Optional ℕ) Refusal} → Answers bytes which strictness a
     → answer_of (number_for a) ≡ a
 known (is_refused {refusal = refusal} e) = told refusal
 known (no_boundary e f) = refl
 known {bytes} (is_counted {units = units} e m) =
-    ap (λ (b : Bool). cond b NoPath (Units units)) (ne_eqb units no_path_number (λ same. omega (arith, m.capped, (own_moderate bytes).units)))
+    ap (λ (b : Bool). cond b (Ok None) (Ok (Some units))) (ne_eqb units no_path_number (λ same. omega (arith, m.capped, (own_moderate bytes).units)))
 
 -- each answer has a number of its own, whatever the two calls were
 pub known_by_number :
-    {bytes bytes' : List ℕ} {which which' : Which} {strictness strictness' : Strictness} {a b : MostUnits} →
+    {bytes bytes' : List ℕ} {which which' : Which} {strictness strictness' : Strictness} {a b : Result (Optional ℕ) Refusal} →
     Answers bytes which strictness a → Answers bytes' which' strictness' b → number_for a ≡ number_for b → a ≡ b
 known_by_number one other same = sym (known one) ∙ ap answer_of same ∙ known other
 
 -- "The record is checked as for decoding, without 11."
-pub never_desk : {bytes : List ℕ} {which : Which} {strictness : Strictness} → Answers bytes which strictness (Refused Desk) → ⊥
+pub never_desk : {bytes : List ℕ} {which : Which} {strictness : Strictness} → Answers bytes which strictness (Err Desk) → ⊥
 never_desk {bytes} (is_refused e) = (own_under bytes 0 0 0 Desk e).1 refl
 
 -- "A stage that the record lacks has no boundaries": no anchors, no boundaries
 pub lacking_stage : (bytes : List ℕ) → refusal_of bytes ≡ none → (phrase_of bytes).added.anchors ≡ [] → (strictness : Strictness)
-    → Answers bytes Count strictness NoPath
+    → Answers bytes Count strictness (Ok None)
 lacking_stage bytes accepted lacking strictness =
     no_boundary accepted (length_none (phrase_of bytes).added.boundaries ((fit laid).nothing_added (ap length lacking)))
   where

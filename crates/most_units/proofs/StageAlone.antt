@@ -8,6 +8,8 @@ use mathlib.Core.Option.{some-ne-none, none as none_given}
 use mathlib.Core.Path.{◌≡◌, refl, sym, ap, subst, ◌∙◌}
 use lib.Dec.{T}
 use lib.ListN.{length, get_or}
+use Rattle.std.specs.Prelude.{Option, Some, None, Result, Ok, Err}
+use Rattle.limits.specs.declared.refusal.Refusal.{Refusal}
 use Rattle.phrase.specs.Phrase.{Phrase, Stage}
 use Rattle.paths.specs.declared.passes.Strictness.{Strictness}
 use Rattle.paths.specs.declared.passes.Pass.{Pass}
@@ -28,8 +30,6 @@ use Rattle.laws.proofs.Numbers.{by_order}
 use Rattle.most_units.specs.Most.{paths_of, Most}
 use Rattle.most_units.specs.Answers.{Answers, is_refused, no_boundary, is_counted}
 use Rattle.most_units.specs.Theory.Heard.{MostIn, which_of, Short, nothing_fits, too_few}
-use Rattle.most_units.specs.declared.answer.MostUnits.{MostUnits}
-use Rattle.most_units.specs.declared.answer.MostUnits.TheVariants.{NoPath as NoPathAt, Units, Refused}
 use Rattle.most_units.proofs.Largest.{counts_exactly}
 
 -- ---- what plays no part
@@ -106,7 +106,7 @@ module _ (phrase : Phrase) (columns : List ℕ) {cap : ℕ} (few : length column
 pub fewer_heard :
     (bytes : List ℕ) → refusal_of bytes ≡ none_given → (columns : List ℕ) → length columns ≤ (limits_of bytes).units →
     Demanded (phrase_of bytes) columns none → T (speaks (phrase_of bytes).speech) →
-    EachPass (λ pass. (a : MostUnits) → Answers bytes (which_of pass) (pass_strictness pass) a → Short (length columns) a)
+    EachPass (λ pass. (a : Result (Option ℕ) Refusal) → Answers bytes (which_of pass) (pass_strictness pass) a → Short (length columns) a)
     (in_order (phrase_of bytes))
 fewer_heard bytes accepted columns few demanded spoken = each (too_short (phrase_of bytes) columns few demanded spoken)
   where
@@ -117,10 +117,10 @@ fewer_heard bytes accepted columns few demanded spoken = each (too_short (phrase
     staged NucleiRelaxed = refl
 
     one : (pass : Pass) → ((units : ℕ) → MostIn (phrase_of bytes) pass (limits_of bytes).units units → units < length columns)
-        → (a : MostUnits) → Answers bytes (which_of pass) (pass_strictness pass) a → Short (length columns) a
-    one pass short (Refused refusal) (is_refused e) = absurd (some-ne-none refusal (sym e ∙ accepted))
-    one pass short NoPathAt (no_boundary e bare) = nothing_fits
-    one pass short (Units units) (is_counted e most) =
+        → (a : Result (Option ℕ) Refusal) → Answers bytes (which_of pass) (pass_strictness pass) a → Short (length columns) a
+    one pass short (Err refusal) (is_refused e) = absurd (some-ne-none refusal (sym e ∙ accepted))
+    one pass short (Ok None) (no_boundary e bare) = nothing_fits
+    one pass short (Ok (Some units)) (is_counted e most) =
         too_few
         (short units
         (subst (λ (stage : Stage). Most (paths_of (phrase_of bytes) stage (pass_strictness pass)) (limits_of bytes).units units)
@@ -128,6 +128,6 @@ fewer_heard bytes accepted columns few demanded spoken = each (too_short (phrase
 
     each : {passes : List Pass}
         → EachPass (λ pass. (units : ℕ) → MostIn (phrase_of bytes) pass (limits_of bytes).units units → units < length columns) passes
-        → EachPass (λ pass. (a : MostUnits) → Answers bytes (which_of pass) (pass_strictness pass) a → Short (length columns) a) passes
+        → EachPass (λ pass. (a : Result (Option ℕ) Refusal) → Answers bytes (which_of pass) (pass_strictness pass) a → Short (length columns) a) passes
     each all_done = all_done
     each (each_of {pass = pass} short more) = each_of (one pass short) (each more)

@@ -2,6 +2,5 @@
 
 #![tactic(auto)]
 
-pub mod answer;
 pub mod most;
 mod reach;

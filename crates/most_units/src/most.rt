@@ -1,6 +1,6 @@
 // The most units of a path, from what each count of units reaches.
 
-ghost use Rattle.std.specs.Prelude.{◌≡◌, ◌<◌, length};
+ghost use Rattle.std.specs.Prelude.{◌≡◌, ◌<◌, length, Ok};
 ghost use Rattle.limits.specs.Capacity.{unit_counts};
 ghost use Rattle.record.specs.Inner.Accepted.{Laid};
 ghost use Rattle.rows.specs.Reads.{reached_by};
@@ -8,16 +8,15 @@ ghost use Rattle.stages.specs.Lists.{words_long};
 ghost use Rattle.most_units.specs.Answers.{Answers};
 ghost use Rattle.most_units.specs.Inner.Last.{LastReached};
 
-use crate::answer::MostUnits;
 use crate::reach::lay_reach;
 use checks::check;
 use limits::capacity::MOST_BOUNDARIES;
 use limits::edition::limits_of;
+use limits::refusal::Refusal;
 use paths::passes::Strictness;
 use reading::read;
 use record::layout::Layout;
 use record::read::Which;
-use record::refusal::Checked;
 use rows::reached::first_reached;
 use stages::lists::WORDS;
 
@@ -26,39 +25,39 @@ fn last_reached(words: &[u32], strictness: Strictness, n: usize, cap: usize) -> 
     requires { (length words.now ≡ words_long) × (cap < unit_counts) × (reached_by words.now strictness 0 < n) }
     ensures { LastReached (reached_by words.now strictness) n cap result }
 {
-    let mut units = 0;
-    while units < cap {
+    for units in 0..cap {
         if first_reached(words, strictness, units + 1) >= n {
             return units;
         }
-        units += 1;
     }
-    units
+    cap
 }
 
-// The answer for an accepted record.
-fn most_of(bytes: &[u8], at: Layout, which: Which, strictness: Strictness) -> MostUnits
+// The most units in a stage of an accepted record; none where there is no path.
+fn most_of(bytes: &[u8], at: Layout, which: Which, strictness: Strictness) -> Option<u32>
     requires { Laid bytes.now at }
-    ensures { Answers bytes.now which strictness result }
+    ensures { Answers bytes.now which strictness (Ok result) }
 {
     let mut bounds = [0u32; MOST_BOUNDARIES];
     let n = read::boundaries(bytes, at, which, &mut bounds);
     if n == 0 {
-        return MostUnits::NoPath;
+        return None;
     }
     let mut words = [0u32; WORDS];
     lay_reach(bytes, at, which, &bounds[..n], &mut words);
     let cap = limits_of(at.edition).units;
-    MostUnits::Units(last_reached(&words, strictness, n, cap) as u32)
+    Some(last_reached(&words, strictness, n, cap) as u32)
 }
 
-// The most units of a path in a stage of the record, strict or relaxed, whether or not decoding would run that pass.
-pub fn most_units(record: &[u8], which: Which, strictness: Strictness) -> MostUnits
+// The most units of a path in a stage of the record, strict or relaxed, whether or not decoding would run that pass; none where
+// there is no path. `number_for` of specs/Answers.antt gives each answer its number.
+pub fn most_units(
+    record: &[u8],
+    which: Which,
+    strictness: Strictness,
+) -> Result<Option<u32>, Refusal>
     ensures { Answers «record».now which strictness result }
 {
-    let checked = check(record);
-    match checked {
-        Checked::Refused(refusal) => MostUnits::Refused(refusal),
-        Checked::Accepted(at) => most_of(record, at, which, strictness),
-    }
+    let at = check(record)?;
+    Ok(most_of(record, at, which, strictness))
 }

@@ -4,7 +4,7 @@ use mathlib.Core.Path.{◌≡◌, ap, subst⁻¹}
 use mathlib.Core.List.{List}
 use native.Mathlib.Nat.{le_trans}
 use native.Mathlib.Omega.{arith}
-use lib.ListN.{length}
+use lib.ListN.{length, get_or}
 use Rattle.limits.specs.Capacity.{most_anchors, most_boundaries}
 use Rattle.phrase.specs.Phrase.{Phrase}
 use Rattle.stages.specs.Parts.{Fit, FitList}
@@ -41,6 +41,11 @@ module _ {bytes : List ℕ} {at : Layout} (h : Laid bytes at) where
   anchors_followed Nuclei i below = omega (arith, (fit h).nuclei.anchors.last i below)
   anchors_followed Count i below = omega (arith, (fit h).added.anchors.last i below)
 
+  pub boundaries_small : (which : Which) (j : ℕ) → j < length (stage_of which (phrase_of bytes)).boundaries
+      → get_or (stage_of which (phrase_of bytes)).boundaries j 0 < 2 ^ 32
+  boundaries_small Nuclei j below = omega (arith, (fit h).nuclei.boundaries.last j below)
+  boundaries_small Count j below = omega (arith, (fit h).added.boundaries.last j below)
+
   pub mask_fits : length (phrase_of bytes).mask < 2 ^ 32
   mask_fits = omega (arith, (fit h).few_frames, (own_moderate bytes).frames)
 
@@ -64,6 +69,10 @@ module _ {bytes : List ℕ} {at : Layout} (h : Laid bytes at) (which : Which) wh
     framed = subst⁻¹ (λ (l : List ℕ). length l < 2 ^ 32) masked (mask_fits h);
     listed = subst⁻¹ (FitList most_boundaries) bounded (boundaries_fit h which);
   }
+
+  pub read_small : {bounds : List ℕ} → bounds ≡ (stage_of which (phrase_of bytes)).boundaries
+      → (j : ℕ) → j < length bounds → get_or bounds j 0 < 2 ^ 32
+  read_small bounded = subst⁻¹ (λ (l : List ℕ). (j : ℕ) → j < length l → get_or l j 0 < 2 ^ 32) bounded (boundaries_small h which)
 
   module _ {anchors : List ℕ} (anchored : anchors ≡ (stage_of which (phrase_of bytes)).anchors) where
     pub read_listed : FitList most_anchors anchors

@@ -22,11 +22,7 @@ use Rattle.prepare.specs.Sides.{listed_span, figure_before, RowsWithin}
 -- ---- a figure of listed anchors, by the rows before places
 
 module _ (figure : ℕ → ℕ) (rows : List ℕ) (first : ℕ) where
-  pub figure_first : (place : ℕ) → place ≡ 0 → 0 ≡ figure_before figure rows first place
-  figure_first zero e = refl
-  figure_first (suc place) e = omega arith
-
-  pub figure_other : (place : ℕ) → (place ≡ 0 → ⊥) → figure (entry_of rows (place - 1) - first) ≡ figure_before figure rows first place
+  figure_other : (place : ℕ) → (place ≡ 0 → ⊥) → figure (entry_of rows (place - 1) - first) ≡ figure_before figure rows first place
   figure_other zero ne = absurd (ne refl)
   figure_other (suc place) ne = let e : suc place - 1 ≡ place = omega arith in ap (λ (at : ℕ). figure (entry_of rows at - first)) e
 

@@ -9,6 +9,7 @@ use Rattle.paths.specs.StageProblem.{boundary}
 use Rattle.spans.specs.Spans.{span_of}
 use Rattle.frames.specs.declared.span.Span.{Span}
 use Rattle.limits.specs.Capacity.{most_boundaries}
+use Rattle.stages.specs.declared.stage_parts.StageParts.{StageParts}
 use Rattle.stages.specs.Filler.{no_cost}
 use Rattle.stages.specs.Parts.{Fills, Searched}
 use Rattle.stages.specs.Ranges.{entry_of}
@@ -24,6 +25,13 @@ use Rattle.record.specs.declared.read.Which.TheVariants.{Nuclei, Count}
 abbrev pub first_row_in : Layout → Which → ℕ
 first_row_in at Nuclei = 0
 first_row_in at Count = at.nuclei.count
+
+-- the parts are a stage's of a phrase
+pub record IsStage (phrase : Phrase) (stage : Stage) (parts : StageParts) : Type 0 where
+  pub masked : parts.mask.now ≡ phrase.mask
+  pub anchored : parts.anchors.now ≡ stage.anchors
+  pub ranked : parts.first_row ≡ stage.first_row
+  pub bounded : parts.bounds.now ≡ stage.boundaries
 
 -- "duration tables of 75 f64 for 6 to 80 frames"
 abbrev pub durations_of : Stage → List Float

@@ -1,28 +1,29 @@
 // One stage of an accepted record, laid into two lent lists: the tables of its search, and the spans of its kept anchors.
 
-ghost use Rattle.std.specs.Prelude.{◌≡◌, ◌+◌, ◌<◌, ◌≤◌, ◌^◌, length, replicate};
-ghost use Rattle.laws.specs.Inner.Tables.{written};
-ghost use Rattle.paths.specs.Anchors.{kept_in, kept};
+ghost use Rattle.std.specs.Prelude.{◌≡◌, ◌-◌, ◌<◌, ◌≤◌, ◌^◌, length, replicate};
+ghost use Rattle.paths.specs.Anchors.{kept};
 ghost use Rattle.record.specs.Meaning.{phrase_of, stage_of};
 ghost use Rattle.record.specs.Inner.Accepted.{Laid};
 ghost use Rattle.record.specs.Inner.Reading.{HasTable};
-ghost use Rattle.limits.specs.Capacity.{most_anchors, most_boundaries};
 ghost use Rattle.limits.specs.Common.{durations};
+ghost use Rattle.stages.specs.Kept.{kept_of};
 ghost use Rattle.stages.specs.Lists.{figures_long, spans_long, words_long};
-ghost use Rattle.stages.specs.Parts.{Fit, FitList};
 ghost use Rattle.stages.specs.Ranges.{entry_of};
-ghost use Rattle.prepare.specs.Sides.{first_row_in, durations_of, Followed, figure_before, RowsWithin, Spans, Worded, Figured, Prepared};
+ghost use Rattle.prepare.specs.Sides.{first_row_in, durations_of, IsStage, Followed, figure_before, RowsWithin, Spans, Worded, Figured, Prepared};
 
-use limits::capacity::{ANCHOR_ROOM, MOST_ANCHORS, MOST_BOUNDARIES, MOST_EDGES};
-use limits::common::{ABSENT, DURATIONS, SHORTEST_UNIT};
+use limits::capacity::{MOST_ANCHORS, MOST_BOUNDARIES};
+use limits::common::{DURATIONS, SHORTEST_UNIT};
 use reading::read;
 use record::layout::Layout;
 use record::read::Which;
+use spans::bounds::Bounds;
 use spans::walk::spans_ascending;
-use stages::anchors::place_anchors;
+use stages::anchors::{PlacedAnchors, place_anchors};
 use stages::filler::lay_filler;
 use stages::lists::{DURATION, FIGURES, SINCE_STRICT, SPAN_END, SPAN_START};
-use stages::search::lay_search;
+use stages::search::lay_parts;
+use stages::stage_parts::StageParts;
+use stages::tables::write_each;
 
 // Where the stage's score rows begin.
 pub fn row_from(at: Layout, which: Which) -> u32
@@ -35,108 +36,90 @@ pub fn row_from(at: Layout, which: Which) -> u32
     }
 }
 
-// Of a list with an entry for each listed anchor, that of the last kept one before each of `n` boundaries; 0 where there is none. A kept
-// anchor's row, less the first one, is its listed place.
-fn pick_listed(
-    list: &[u32],
-    rows: &[u32],
-    first_row: u32,
-    places: &[u32],
-    n: usize,
-    out: &mut [u32],
-)
-    requires { RowsWithin rows.now first_row places.now n (length list.now) × (n ≤ length out.old) }
-    ensures { out.new
-        ≡ written (λ j. figure_before (entry_of list.now) rows.now first_row (entry_of places.now j)) n
-        out.old }
+// The parts of a stage whose anchors and boundaries are read.
+pub fn parts_of<'a>(
+    bytes: &'a [u8],
+    at: Layout,
+    which: Which,
+    anchors: &'a [u32],
+    bounds: &'a [u32],
+) -> StageParts<'a>
+    requires laid { Laid bytes.now at }
+    requires anchors_read { anchors.now ≡ (stage_of which (phrase_of bytes.now)).anchors }
+    requires bounds_read { bounds.now ≡ (stage_of which (phrase_of bytes.now)).boundaries }
+    ensures { IsStage (phrase_of bytes.now) (stage_of which (phrase_of bytes.now)) result }
 {
-    let mut j = 0;
-    while j < n {
-        let place = places[j] as usize;
-        out[j] = if place == 0 {
-            0
-        } else {
-            list[(rows[place - 1] - first_row) as usize]
-        };
-        j += 1;
+    StageParts {
+        mask: read::mask(bytes, at),
+        anchors,
+        first_row: row_from(at, which),
+        bounds,
+    }
+}
+
+// Of a list with an entry for each listed anchor, that of the last kept one before a place; 0 where there is none. A kept anchor's row,
+// less the first one, is its listed place.
+fn listed_before(list: &[u32], rows: &[u32], first_row: u32, place: u32) -> u32
+    requires placed { place ≤ length rows.now }
+    requires from { 0 < place → first_row ≤ entry_of rows.now (place - 1) }
+    requires within { 0 < place → entry_of rows.now (place - 1) - first_row < length list.now }
+    ensures { result ≡ figure_before (entry_of list.now) rows.now first_row place }
+{
+    match (place as usize).checked_sub(1) {
+        Some(at) => list[(rows[at] - first_row) as usize],
+        None => 0,
     }
 }
 
 // The edges of the span of the last kept anchor before each boundary, into words that are 0. Each listed anchor's span is found once,
 // however many boundaries follow it.
 fn lay_spans(
-    anchors: &[u32],
-    bounds: &[u32],
+    stage: &StageParts,
+    placed: &PlacedAnchors,
     lo_edge: u32,
     hi_edge: u32,
-    rows: &[u32],
-    first_row: u32,
-    places: &[u32],
     words: &mut [u32],
 )
-    requires fit_list { FitList most_anchors anchors.now × Followed anchors.now × FitList most_boundaries bounds.now }
-    requires rows_within { RowsWithin rows.now first_row places.now (length bounds.now) (length anchors.now)
-        × (words.old ≡ replicate spans_long 0) }
-    ensures { Spans anchors.now bounds.now lo_edge hi_edge rows.now first_row
-        places.now words.new }
+    requires followed { Followed stage.now.anchors.now }
+    requires rows_within { RowsWithin placed.now.rows stage.now.first_row placed.now.places (length stage.now.bounds.now) (length stage.now.anchors.now) }
+    requires spare { words.old ≡ replicate spans_long 0 }
+    ensures { Spans stage.now.anchors.now stage.now.bounds.now lo_edge hi_edge placed.now.rows stage.now.first_row
+        placed.now.places words.new }
 {
-    let n = bounds.len();
+    let n = stage.bounds.len();
+    let rows = &placed.rows;
     let mut starts = [0u32; MOST_ANCHORS];
     let mut ends = [0u32; MOST_ANCHORS];
-    spans_ascending(anchors, bounds, lo_edge, hi_edge, &mut starts, &mut ends);
-    pick_listed(
-        &starts,
-        rows,
-        first_row,
-        places,
+    let bounds = Bounds {
+        boundaries: stage.bounds,
+        lo_edge,
+        hi_edge,
+    };
+    spans_ascending(stage.anchors, &bounds, &mut starts, &mut ends);
+    write_each(
+        &mut words[..SPAN_END - SPAN_START],
         n,
-        &mut words[0..SPAN_END - SPAN_START],
+        |j| listed_before(&starts, rows, stage.first_row, placed.places[j]),
     );
-    pick_listed(
-        &ends,
-        rows,
-        first_row,
-        places,
-        n,
+    write_each(
         &mut words[SPAN_END - SPAN_START..SINCE_STRICT - SPAN_START],
+        n,
+        |j| listed_before(&ends, rows, stage.first_row, placed.places[j]),
     );
 }
 
-fn lay_words(
-    mask: &[u8],
-    anchors: &[u32],
-    first_row: u32,
-    bounds: &[u32],
-    lo_edge: u32,
-    hi_edge: u32,
-    words: &mut [u32],
-)
-    requires fit { Fit mask.now bounds.now × FitList most_anchors anchors.now × (first_row + length anchors.now < 2 ^ 32) }
-    requires followed { Followed anchors.now × (length words.old ≡ words_long) }
-    ensures { Worded (kept_in mask.now first_row anchors.now) anchors.now
-        bounds.now lo_edge hi_edge words.new }
+fn lay_words(stage: &StageParts, lo_edge: u32, hi_edge: u32, words: &mut [u32])
+    requires followed { Followed stage.now.anchors.now }
+    requires words_len { length words.old ≡ words_long }
+    ensures { Worded (kept_of stage.now) stage.now.anchors.now stage.now.bounds.now lo_edge hi_edge words.new }
 {
-    let mut frames = [ABSENT; ANCHOR_ROOM];
-    let mut rows = [0u32; ANCHOR_ROOM];
-    let mut places = [0u32; MOST_EDGES];
-    place_anchors(
-        mask,
-        anchors,
-        first_row,
-        bounds,
-        &mut frames,
-        &mut rows,
-        &mut places,
-    );
-    lay_search(&frames, &rows, &places, bounds, words);
+    let placed = place_anchors(stage);
+    lay_parts(stage, &placed, words);
     lay_spans(
-        anchors,
-        bounds,
+        stage,
+        &placed,
         lo_edge,
         hi_edge,
-        &rows,
-        first_row,
-        &places,
         &mut words[SPAN_START..SINCE_STRICT],
     );
 }
@@ -158,16 +141,9 @@ fn lay_stage_words(
         (stage_of which (phrase_of bytes.now)).boundaries lo_edge hi_edge words.new }
 {
     let mut anchors = [0u32; MOST_ANCHORS];
-    let a = read::anchors(bytes, at, which, &mut anchors);
-    lay_words(
-        read::mask(bytes, at),
-        &anchors[..a],
-        row_from(at, which),
-        bounds,
-        lo_edge,
-        hi_edge,
-        words,
-    );
+    let count = read::anchors(bytes, at, which, &mut anchors);
+    let stage = parts_of(bytes, at, which, &anchors[..count], bounds);
+    lay_words(&stage, lo_edge, hi_edge, words);
 }
 
 fn lay_durations(bytes: &[u8], at: Layout, which: Which, out: &mut [f64])
@@ -176,11 +152,11 @@ fn lay_durations(bytes: &[u8], at: Layout, which: Which, out: &mut [f64])
     requires out_len { length out.old ≡ durations }
     ensures { out.new ≡ durations_of (stage_of which (phrase_of bytes.now)) }
 {
-    let mut i = 0;
-    while i < DURATIONS {
-        out[i] = read::duration(bytes, at, which, i + SHORTEST_UNIT);
-        i += 1;
-    }
+    write_each(
+        out,
+        DURATIONS,
+        |i| read::duration(bytes, at, which, i + SHORTEST_UNIT),
+    );
 }
 
 // The figures of a stage with these boundaries. The nuclei are the record's, whatever the stage.

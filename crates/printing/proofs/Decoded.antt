@@ -8,8 +8,9 @@ use native.Mathlib.Nat.{zero-add, le_trans}
 use native.Mathlib.Omega.{arith}
 use borrow.Author.Tests.{le-ltb}
 use lib.ListN.{length, drop, length-map}
-use lib.Seq.{sets, sets-eq}
+use lib.Seq.{sets-eq}
 use lib.Ieee.{Float}
+use Rattle.std.specs.Prelude.{Result, Ok, Err}
 use Rattle.text.specs.Ascii.{ascii, decimal}
 use Rattle.text.specs.Inner.Puts.{Puts}
 use Rattle.limits.specs.Capacity.{most_units, most_candidates, most_cells}
@@ -17,10 +18,11 @@ use Rattle.limits.proofs.Editions.{cells_within, words_within}
 use Rattle.record.specs.Format.{trailer_bytes}
 use Rattle.record.specs.Layout.{layout_of, limits_of}
 use Rattle.record.specs.Conditions.{short_desk}
-use Rattle.record.specs.Refusals.{number_of, refusal_of, refusal_with}
+use Rattle.limits.specs.Refusals.{number_of}
+use Rattle.record.specs.Refusals.{refusal_of, refusal_with}
 use Rattle.record.specs.Meaning.{phrase_of}
-use Rattle.record.specs.declared.refusal.Refusal.{Refusal}
-use Rattle.record.specs.declared.refusal.Refusal.TheVariants.{Desk}
+use Rattle.limits.specs.declared.refusal.Refusal.{Refusal}
+use Rattle.limits.specs.declared.refusal.Refusal.TheVariants.{Desk}
 use Rattle.record.proofs.Accepted.{own_moderate, laid_long}
 use Rattle.record.proofs.Answers.{refused_first, desk_last}
 use Rattle.entries.specs.Entry.{Entry}
@@ -32,9 +34,8 @@ use Rattle.entries.specs.Ranking.{ranked}
 use Rattle.entries.proofs.Ranks.{each_ranked}
 use Rattle.entries.proofs.RankedLength.{length_ranked}
 use Rattle.decoding.specs.EntryOf.{entry_of, entries_of}
-use Rattle.decoding.specs.Contract.{outcome, outcome_of, Decodes}
-use Rattle.decoding.specs.declared.answer.Decoded.{Decoded}
-use Rattle.decoding.specs.declared.answer.Decoded.TheVariants.{Entries, Refused}
+use Rattle.frames.specs.Outcome.{outcome}
+use Rattle.decoding.specs.Contract.{outcome_of, Decodes}
 use Rattle.decoding.proofs.Calls.{candidates_counted}
 use Rattle.decoding.proofs.Bounded.{phrase_fit}
 use Rattle.decoding.proofs.Demands.{entries_fit}
@@ -109,16 +110,16 @@ pub record Listed (bytes words : List ℕ) (count : ℕ) : Type 0 where
   pub whole : AllWhole (limits_of bytes).units count words
   pub lines : decoded_in (entry_words (limits_of bytes).units) count words ≡ listing_of bytes
 
-module _ {bytes : List ℕ} {best : List Float} {back words : List ℕ} {answer : Decoded} {best' : List Float} {back' words' : List ℕ}
+module _ {bytes : List ℕ} {best : List Float} {back words : List ℕ} {answer : Result ℕ Refusal} {best' : List Float} {back' words' : List ℕ}
     (ample : Ample (length best) (length back) (length words)) (decodes : Decodes bytes best back words answer best' back' words') where
-  said : (o : Option Refusal) {given : Decoded} → refusal_of bytes ≡ o → answer ≡ given
+  said : (o : Option Refusal) {given : Result ℕ Refusal} → refusal_of bytes ≡ o → answer ≡ given
       → outcome given ≡ outcome_of o (length (phrase_of bytes).candidates)
   said o rules e =
       ap outcome (sym e)
       ∙ decodes.answered
       ∙ ap (λ (q : Option Refusal). outcome_of q (length (phrase_of bytes).candidates)) (own_refusal bytes ample ∙ rules)
 
-  pub accepted_listing : (count : ℕ) → answer ≡ Entries count → Listed bytes words' count
+  pub accepted_listing : (count : ℕ) → answer ≡ Ok count → Listed bytes words' count
   accepted_listing count e = go (refusal_of bytes) refl
     where
       go : (o : Option Refusal) → refusal_of bytes ≡ o → Listed bytes words' count
@@ -133,7 +134,7 @@ module _ {bytes : List ℕ} {best : List Float} {back words : List ℕ} {answer 
             lines = entries_listed bytes fine count same _ written;
           }
 
-  pub refused_listing : (q : Refusal) → answer ≡ Refused q → refused_text (number_of q) ≡ listing_of bytes
+  pub refused_listing : (q : Refusal) → answer ≡ Err q → refused_text (number_of q) ≡ listing_of bytes
   unfolding listing_of
   refused_listing q e = go (refusal_of bytes) refl
     where
@@ -146,17 +147,14 @@ module _ {bytes : List ℕ} {best : List Float} {back words : List ℕ} {answer 
 -- ---- what was written
 
 -- a listing at the front of a buffer with room for every listing
-pub rendered : {most : ℕ} {bytes out out' text : List ℕ} {next : ℕ}
-    → text ≡ listing_of bytes → most ≤ listing_bytes → listing_bytes ≤ length out
-    → Puts most out 0 text out' next → Rendered bytes out next out'
-rendered {bytes = bytes} {out = out} same few room puts =
-    let long = ap length same in
-    record {
-      counted = omega arith;
-      enough = omega arith;
-      written =
-          puts.written
-          ∙ ap (sets out 0) same
-          ∙ sets-eq (listing_of bytes) out 0 (omega arith)
-          ∙ ap (λ (n : ℕ). listing_of bytes ++ drop n out) (zero-add (length (listing_of bytes)));
-    }
+pub rendered : {bytes out mid out' : List ℕ} {next : ℕ}
+    → out' ≡ mid → listing_bytes ≤ length out → Puts listing_bytes out 0 (listing_of bytes) mid next → Rendered bytes out next out'
+rendered {bytes = bytes} {out = out} same room puts = record {
+  counted = puts.after ∙ zero-add (length (listing_of bytes));
+  enough = puts.short;
+  written =
+      same
+      ∙ puts.written
+      ∙ sets-eq (listing_of bytes) out 0 (omega (arith, puts.short))
+      ∙ ap (λ (n : ℕ). listing_of bytes ++ drop n out) (zero-add (length (listing_of bytes)));
+}

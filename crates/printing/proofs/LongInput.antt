@@ -16,8 +16,8 @@ use Rattle.text.specs.Ascii.{ascii, decimal}
 use Rattle.record.specs.Format.{trailer_bytes, record_bytes}
 use Rattle.record.specs.Refusals.{trailer_rules, first_rules, own_rules, refusal_of}
 use Rattle.record.specs.Meaning.{phrase_of}
-use Rattle.record.specs.declared.refusal.Refusal.{Refusal}
-use Rattle.record.specs.declared.refusal.Refusal.TheVariants.{Stub}
+use Rattle.limits.specs.declared.refusal.Refusal.{Refusal}
+use Rattle.limits.specs.declared.refusal.Refusal.TheVariants.{Stub}
 use Rattle.printing.specs.Listing.{refused_text, listing_for, listing_of}
 
 or_true : (a : Bool) → (a || true) ≡ true

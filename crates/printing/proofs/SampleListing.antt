@@ -14,7 +14,7 @@ use Rattle.record.specs.Bytes.{u32_at, u64_at}
 use Rattle.limits.specs.Edition.{numbers_of}
 use Rattle.record.specs.Layout.{trailer_of, layout_from, layout_of}
 use Rattle.record.specs.Meaning.{phrase_of}
-use Rattle.record.specs.declared.refusal.Refusal.{Refusal}
+use Rattle.limits.specs.declared.refusal.Refusal.{Refusal}
 use Rattle.sample.specs.Sample.{sample}
 use Rattle.sample.proofs.SamplePhrase.{accepted}
 use Rattle.paths.specs.Anchors.{kept_in}

@@ -1,11 +1,11 @@
 -- What is left to write after a turn of each loop over words.
 use Prim.Native.Nat.{ℕ, suc, ◌+◌, ◌-◌, ◌*◌, ◌≤◌, ◌<◌}
 use mathlib.Core.List.{List, [], ◌++◌}
-use mathlib.Core.Path.{◌≡◌, refl, sym, ap, ap₂, subst, subst₂, ◌∙◌}
+use mathlib.Core.Path.{◌≡◌, sym, ap, ap₂, subst, subst₂, ◌∙◌}
 use native.Mathlib.Nat.{zero-mul}
 use native.Mathlib.Omega.{arith}
 use lib.ListN.{length, get_or, take, drop, length-drop}
-use lib.Seq.{take_all, get_or-drop, drop-drop}
+use lib.Seq.{take_all, drop-drop}
 use Rattle.laws.proofs.Numbers.{next_row}
 use Rattle.entries.specs.Entry.{ReportedUnit}
 use Rattle.limits.specs.Sizes.{entry_words}
@@ -18,34 +18,26 @@ part_from from words = take_all (length words - from) (drop from words) (omega (
 
 -- ---- units
 
--- the unit whose words stand from `from` on
-abbrev pub unit_from : List ℕ → ℕ → ReportedUnit
-unit_from words from = record { start = get_or words from 0; end = get_or words (from + 1) 0; row = get_or words (from + 2) 0 }
+-- the unit whose words stand at the front
+abbrev pub first_unit : List ℕ → ReportedUnit
+first_unit words = record { start = get_or words 0 0; end = get_or words 1 0; row = get_or words 2 0 }
 
 -- the lines of the units from number i up to `count`
 abbrev pub units_left : List ℕ → ℕ → ℕ → List ℕ
 units_left words count i = unit_lines (units_in (count - i) (drop (3 * i) words))
 
 module _ (words : List ℕ) where
-  at_front : (from : ℕ) → unit_from (drop from words) 0 ≡ unit_from words from
-  at_front from =
-      let here : from + 0 ≡ from = omega arith in
-      λ i. record { start = at 0 here i; end = at 1 refl i; row = at 2 refl i }
-    where
-      at : (k : ℕ) {place : ℕ} → from + k ≡ place → get_or (drop from words) k 0 ≡ get_or words place 0
-      at k e = get_or-drop from words k 0 ∙ ap (λ (n : ℕ). get_or words n 0) e
-
   pub units_all : (count : ℕ) → unit_lines (units_in count words) ≡ units_left words count 0
   units_all count = let same : count ≡ count - 0 = omega arith in ap (λ (n : ℕ). unit_lines (units_in n words)) same
 
-  pub units_turn : (count i : ℕ) → i < count → units_left words count i ≡ unit_line (unit_from words (3 * i)) ++ units_left words count (i + 1)
+  pub units_turn : (count i : ℕ) → i < count → units_left words count i ≡ unit_line (first_unit (drop (3 * i) words)) ++ units_left words count (i + 1)
   unfolding unit_lines units_in
   units_turn count i more_left =
       let one_less : count - i ≡ suc (count - (i + 1)) = omega arith in
       let further : 3 * i + 3 ≡ 3 * (i + 1) = omega arith in
       ap (λ (n : ℕ). unit_lines (units_in n (drop (3 * i) words))) one_less
-      ∙ ap₂ (λ (u : ReportedUnit) (rest : List ℕ). unit_line u ++ unit_lines (units_in (count - (i + 1)) rest))
-      (at_front (3 * i)) (drop-drop 3 (3 * i) words ∙ ap (λ (n : ℕ). drop n words) further)
+      ∙ ap (λ (rest : List ℕ). unit_line (first_unit (drop (3 * i) words)) ++ unit_lines (units_in (count - (i + 1)) rest))
+      (drop-drop 3 (3 * i) words ∙ ap (λ (n : ℕ). drop n words) further)
 
   pub units_end : (count i : ℕ) → count ≤ i → units_left words count i ≡ []
   unfolding unit_lines units_in
@@ -107,3 +99,7 @@ module _ (most : ℕ) (words : List ℕ) where
 
     pub whole_within : i * entry_words most + entry_words most ≤ length words
     whole_within = omega (arith, whole_first.there, length-drop (i * entry_words most) words)
+
+    -- as the part of a slice that is lent
+    pub whole_lent : Whole most (take (length words - i * entry_words most) (words_left most words i))
+    whole_lent = subst (Whole most) (sym (part_from (i * entry_words most) words)) whole_first

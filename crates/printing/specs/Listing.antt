@@ -6,9 +6,10 @@ use Rattle.std.specs.Float.{binary32}
 use Rattle.std.specs.Float.Ieee.{to_bits}
 use Rattle.text.specs.Ascii.{ascii, decimal, hexadecimal}
 use Rattle.phrase.specs.Phrase.{Phrase}
-use Rattle.record.specs.Refusals.{number_of, refusal_of}
+use Rattle.limits.specs.Refusals.{number_of}
+use Rattle.record.specs.Refusals.{refusal_of}
 use Rattle.record.specs.Meaning.{phrase_of}
-use Rattle.record.specs.declared.refusal.Refusal.{Refusal}
+use Rattle.limits.specs.declared.refusal.Refusal.{Refusal}
 use Rattle.limits.specs.Common.{absent}
 use Rattle.entries.specs.Entry.{ReportedUnit, Entry}
 use Rattle.entries.specs.Ranking.{ranked}

@@ -1,20 +1,19 @@
 // From a record to its listing.
 
-ghost use Rattle.std.specs.Prelude.{◌+◌, ◌*◌, ◌≤◌, length};
-ghost use Rattle.text.specs.Inner.Puts.{Puts};
+ghost use Rattle.std.specs.Prelude.{◌≡◌, ◌+◌, ◌*◌, ◌≤◌, length};
+ghost use Rattle.text.specs.Inner.Puts.{Prints};
 ghost use Rattle.limits.specs.Sizes.{entry_words};
 ghost use Rattle.limits.specs.Capacity.{most_units};
-ghost use Rattle.printing.specs.Listing.{refused_text};
+ghost use Rattle.printing.specs.Listing.{refused_text, listing_of};
 ghost use Rattle.printing.specs.Inner.InWords.{decoded_in, AllWhole};
 ghost use Rattle.printing.specs.Rendered.{first_line_bytes, entry_bytes, listing_bytes, Rendered};
 
 use crate::lines::put_entries;
 use decode::decode::decode;
-use decoding::answer::Decoded;
 use limits::capacity::{MOST_CANDIDATES, MOST_CELLS, MOST_UNITS};
 use limits::edition::{HEAD_WORDS, UNIT_WORDS, limits_of};
 use sections::trailer::trailer_of;
-use text::{put, put_decimal};
+use text::Page;
 
 // Room for the entries of every record.
 const MOST_WORDS: usize = MOST_CANDIDATES * (HEAD_WORDS + UNIT_WORDS * MOST_UNITS);
@@ -31,25 +30,41 @@ const ENTRY_BYTES: usize = HEAD_LINE_BYTES + UNIT_LINE_BYTES * MOST_UNITS;
 // Room for the listing of every record.
 pub const LISTING_BYTES: usize = FIRST_LINE_BYTES + ENTRY_BYTES * MOST_CANDIDATES;
 
-fn put_decoded(out: &mut [u8], words: &[u32], most: usize, count: u32) -> usize
-    requires most_le_most_units { (most ≤ most_units) × (first_line_bytes + entry_bytes most_units * count ≤ length out.old) }
+fn put_decoded(page: &mut Page, words: &[u32], most: usize, count: u32)
+    requires most_le_most_units { (most ≤ most_units) × (page.old.len + (first_line_bytes + entry_bytes most_units * count) ≤ length page.old.bytes.now) }
     requires all_whole { AllWhole most count words.now }
-    ensures { Puts (first_line_bytes + entry_bytes most_units * count) out.old 0
-        (decoded_in (entry_words most) count words.now) out.new result }
+    ensures { Prints (first_line_bytes + entry_bytes most_units * count) page.old (decoded_in (entry_words most) count words.now) page.new }
 {
-    let to_count = put(out, 0, b"decoded ");
-    let after_count = put_decimal(out, to_count, count);
-    let to_entries = put(out, after_count, b"\n");
-    put_entries(out, to_entries, words, most, count as usize)
+    page.put(b"decoded ");
+    page.put_decimal(count);
+    page.put(b"\n");
+    put_entries(page, words, most, count as usize);
 }
 
-fn put_refused(out: &mut [u8], number: u32) -> usize
-    requires { first_line_bytes ≤ length out.old }
-    ensures { Puts first_line_bytes out.old 0 (refused_text number) out.new result }
+fn put_refused(page: &mut Page, number: u32)
+    requires { page.old.len + first_line_bytes ≤ length page.old.bytes.now }
+    ensures { Prints first_line_bytes page.old (refused_text number) page.new }
 {
-    let to_number = put(out, 0, b"refused ");
-    let after_number = put_decimal(out, to_number, number);
-    put(out, after_number, b"\n")
+    page.put(b"refused ");
+    page.put_decimal(number);
+    page.put(b"\n");
+}
+
+// Decodes the record.
+fn put_listing(page: &mut Page, record: &[u8])
+    requires { page.old.len + listing_bytes ≤ length page.old.bytes.now }
+    ensures { Prints listing_bytes page.old (listing_of «record».now) page.new }
+{
+    let mut best = [0.0f64; MOST_CELLS];
+    let mut back = [0u32; MOST_CELLS];
+    let mut words = [0u32; MOST_WORDS];
+    match decode(record, &mut best, &mut back, &mut words) {
+        Ok(count) => {
+            let limits = limits_of(trailer_of(record).edition);
+            put_decoded(page, &words, limits.units, count);
+        }
+        Err(refusal) => put_refused(page, u32::from(refusal)),
+    }
 }
 
 // Writes the record's listing at the front of `out`, and answers how many bytes it has.
@@ -57,15 +72,7 @@ pub fn render(record: &[u8], out: &mut [u8]) -> usize
     requires { listing_bytes ≤ length out.old }
     ensures { Rendered «record».now out.old result out.new }
 {
-    let mut best = [0.0f64; MOST_CELLS];
-    let mut back = [0u32; MOST_CELLS];
-    let mut words = [0u32; MOST_WORDS];
-    let decoded = decode(record, &mut best, &mut back, &mut words);
-    match decoded {
-        Decoded::Entries(count) => {
-            let limits = limits_of(trailer_of(record).edition);
-            put_decoded(out, &words, limits.units, count)
-        }
-        Decoded::Refused(refusal) => put_refused(out, refusal.number()),
-    }
+    let mut page = Page { bytes: out, len: 0 };
+    put_listing(&mut page, record);
+    page.len
 }

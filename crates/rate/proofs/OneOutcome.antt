@@ -1,40 +1,26 @@
 -- Each call of `rate_s` has exactly one outcome that meets its contract; and 6 is given only where neither 3 nor 5 applies.
 use Prim.Native.Nat.{ℕ}
-use mathlib.Core.Bool.{false, cond}
+use mathlib.Core.Bool.{false}
 use mathlib.Core.List.{List, [], ◌∷◌}
 use mathlib.Core.Path.{◌≡◌, refl}
 use borrow.Author.Tests.{eqb-false}
-use lib.Dec.{eqb, ltb}
+use lib.Dec.{ltb}
 use lib.Ieee.{Float}
 use lib.ListN.{length}
 use Rattle.laws.specs.Inner.Each.{Each, each_none, each_more}
 use Rattle.laws.specs.Rules.{Rule, rule}
 use Rattle.laws.specs.Theory.OneOutcome.{ExactlyOne}
+use Rattle.std.specs.Prelude.{Result}
 use Rattle.limits.specs.Common.{last_frame}
+use Rattle.limits.specs.declared.refusal.Refusal.{Refusal}
 use Rattle.laws.proofs.Rules.{Fails, passed_over}
-use Rattle.frames.specs.Outcome.{Outcome, accepted, refused, any_above, most_frames}
-use Rattle.frames.proofs.Outcomes.{refuses_exactly, one_answer}
-use Rattle.rate.specs.Rate.{outcome, rate_of}
-use Rattle.rate.specs.declared.duration.RateAnswer.{RateAnswer}
-use Rattle.rate.specs.declared.duration.RateAnswer.TheVariants.{Seconds, Size, Track, Cost}
+use Rattle.frames.specs.Outcome.{refused, outcome, any_above, most_frames}
+use Rattle.frames.proofs.Outcomes.{refusing, refuses_exactly, one_answer}
+use Rattle.rate.specs.Rate.{rate_of}
 
--- the answer of a number or a value
-abbrev given : Outcome Float → RateAnswer
-given (accepted seconds) = Seconds seconds
-given (refused n) = cond (eqb n 3) Size (cond (eqb n 5) Track Cost)
-
-known : (answer : RateAnswer) → given (outcome answer) ≡ answer
-known (Seconds r) = refl
-known Size = refl
-known Track = refl
-known Cost = refl
-
-pub one_rate : (frames : List ℕ) (default : Float) → ExactlyOne (λ (answer : RateAnswer). outcome answer ≡ rate_of frames default)
+pub one_rate : (frames : List ℕ) (default : Float) → ExactlyOne (λ (answer : Result Float Refusal). outcome answer ≡ rate_of frames default)
 unfolding rate_of
-one_rate frames default =
-    one_answer _ _ outcome given known
-    (each_more (record { says = λ held. refl }) (each_more (record { says = λ held. refl }) (each_more (record { says = λ held. refl }) each_none)))
-    refl
+one_rate frames default = one_answer _ _ (each_more (refusing 3 refl) (each_more (refusing 5 refl) (each_more (refusing 6 refl) each_none)))
 
 -- the two rules that stand before 6
 abbrev early : List ℕ → List (Rule ℕ)

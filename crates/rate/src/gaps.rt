@@ -1,20 +1,17 @@
 // The gaps between frames that ascend, neither listed nor sorted: each is worked out from its two frames wherever it is counted.
 
-ghost use Rattle.std.specs.Prelude.{◌≡◌, cond, ◌+◌, ◌-◌, ◌<◌, ltb, length, get_or};
+ghost use Rattle.std.specs.Prelude.{◌≡◌, ◌+◌, ◌-◌, ◌<◌, length, slice_index};
 ghost use Rattle.rate.specs.Rate.{gaps, below};
 ghost use Rattle.rate.specs.Place.{FoundAt};
 ghost use Rattle.rate.specs.Inner.Ascends.{Ascends, InOrder};
 ghost use Rattle.rate.specs.Inner.Largest.{largest_below};
 
-use crate::order::one_if;
-use frames::list::larger;
-
-// The gap from a frame to the next.
-fn gap_after(ascending: &[u32], i: usize) -> u32
-    requires { Ascends ascending.now × (i + 1 < length ascending.now) }
-    ensures { result ≡ get_or ascending.now (i + 1) 0 - get_or ascending.now i 0 }
+// The gap to a frame from the one before it.
+fn gap_to(ascending: &[u32], i: usize) -> u32
+    requires { Ascends ascending.now × (0 < i) × (i < length ascending.now) }
+    ensures { result ≡ slice_index ascending.now i - slice_index ascending.now (i - 1) }
 {
-    ascending[i + 1] - ascending[i]
+    ascending[i] - ascending[i - 1]
 }
 
 // How many gaps are below a limit. The count is a u32, like the frames, so that the walk compiles to vector code.
@@ -23,10 +20,8 @@ fn gaps_below(ascending: &[u32], limit: u32) -> u32
     ensures { result ≡ below limit (gaps ascending.now) }
 {
     let mut count = 0;
-    let mut i = 0;
-    while i + 1 < ascending.len() {
-        count += one_if(gap_after(ascending, i) < limit);
-        i += 1;
+    for i in 1..ascending.len() {
+        count += u32::from(gap_to(ascending, i) < limit);
     }
     count
 }
@@ -40,7 +35,7 @@ pub(crate) fn gap_at(ascending: &[u32], place: u32, most: u32) -> u32
     let mut low = 0;
     let mut range = most;
     while 0 < range {
-        let half = range - range / 2;
+        let half = range.div_ceil(2);
         if gaps_below(ascending, low + half) <= place {
             low += half;
         }
@@ -49,23 +44,15 @@ pub(crate) fn gap_at(ascending: &[u32], place: u32, most: u32) -> u32
     low
 }
 
-// A gap that is below a limit; 0 for any other.
-fn if_below(gap: u32, limit: u32) -> u32
-    ensures { result ≡ cond (ltb gap limit) gap 0 }
-{
-    if gap < limit { gap } else { 0 }
-}
-
 // The largest gap below a limit, or 0 where there is none.
 fn largest_below(ascending: &[u32], limit: u32) -> u32
     requires { InOrder ascending.now }
     ensures { result ≡ largest_below limit (gaps ascending.now) }
 {
     let mut largest = 0;
-    let mut i = 0;
-    while i + 1 < ascending.len() {
-        largest = larger(if_below(gap_after(ascending, i), limit), largest);
-        i += 1;
+    for i in 1..ascending.len() {
+        let gap = gap_to(ascending, i);
+        largest = largest.max(if gap < limit { gap } else { 0 });
     }
     largest
 }

@@ -1,4 +1,5 @@
 -- Steps of the readers' proofs.
 mod Lists
+mod Figures
 mod Sections
 mod Rows

@@ -2,4 +2,5 @@
 
 #![tactic(auto)]
 
+pub mod accepted;
 pub mod read;

@@ -17,6 +17,11 @@ module _ (p : ℕ → Bool) where
   unfolding any_below
   any_more i none here = rw (add-one, none, here) refl
 
+  -- a walk to the end, whatever it finds
+  pub any_next : (i : ℕ) {before here : Bool} → before ≡ any_below p i → here ≡ p i → (before || here) ≡ any_below p (i + 1)
+  unfolding any_below
+  any_next i none here = rw (add-one, none, here) refl
+
   pub any_found : (i n : ℕ) → i < n → p i ≡ true → any_below p n ≡ true
   unfolding any_below
   any_found i zero l here = absurd (not-suc-le-zero l)

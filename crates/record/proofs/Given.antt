@@ -17,9 +17,10 @@ use Rattle.laws.proofs.Rules.{Fails, FirstHolds, Says, given_exactly, none_exact
 use Rattle.record.specs.Below.{any_below}
 use Rattle.record.specs.Layout.{trailer_start, trailer_of, layout_of, limits_of}
 use Rattle.record.specs.Conditions.{stub, other_edition, oversized, overreaching, bad_track, bad_cost, bare, repeated, bad_units, bad_column, short_desk}
-use Rattle.record.specs.Refusals.{number_of, trailer_rules, content_rules, first_rules, candidate_rules, own_rules, refusal_of, refusal_with}
-use Rattle.record.specs.declared.refusal.Refusal.{Refusal}
-use Rattle.record.specs.declared.refusal.Refusal.TheVariants.{Stub, Edition, Size, Reach, Track, Cost, Bare, Twice, Units, Column, Desk}
+use Rattle.limits.specs.Refusals.{number_of}
+use Rattle.record.specs.Refusals.{trailer_rules, content_rules, first_rules, candidate_rules, own_rules, refusal_of, refusal_with}
+use Rattle.limits.specs.declared.refusal.Refusal.{Refusal}
+use Rattle.limits.specs.declared.refusal.Refusal.TheVariants.{Stub, Edition, Size, Reach, Track, Cost, Bare, Twice, Units, Column, Desk}
 use Rattle.record.proofs.Below.{any_found}
 use Rattle.record.proofs.Passed.{Passed, none_holds}
 

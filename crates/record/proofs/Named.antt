@@ -3,9 +3,9 @@ use Prim.Native.Nat.{ℕ, ◌-◌}
 use mathlib.Core.List.{[], ◌∷◌}
 use mathlib.Core.Path.{◌≡◌, refl}
 use lib.ListN.{get_or}
-use Rattle.record.specs.Refusals.{number_of}
-use Rattle.record.specs.declared.refusal.Refusal.{Refusal}
-use Rattle.record.specs.declared.refusal.Refusal.TheVariants.{Stub, Edition, Size, Reach, Track, Cost, Bare, Twice, Units, Column, Desk}
+use Rattle.limits.specs.Refusals.{number_of}
+use Rattle.limits.specs.declared.refusal.Refusal.{Refusal}
+use Rattle.limits.specs.declared.refusal.Refusal.TheVariants.{Stub, Edition, Size, Reach, Track, Cost, Bare, Twice, Units, Column, Desk}
 
 -- the refusal of each number
 abbrev pub named : ℕ → Refusal

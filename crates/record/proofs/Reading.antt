@@ -29,7 +29,7 @@ use Rattle.record.specs.Inner.Accepted.{Laid}
 use Rattle.record.specs.Inner.Reading.{anchor_section, boundary_section, table_start, HasTable, candidate_of}
 use Rattle.limits.specs.declared.edition.Limits.{Limits}
 use Rattle.record.specs.declared.layout.Layout.{Layout}
-use Rattle.record.specs.declared.refusal.Refusal.{Refusal}
+use Rattle.limits.specs.declared.refusal.Refusal.{Refusal}
 use Rattle.record.specs.declared.read.Which.{Which}
 use Rattle.record.specs.declared.read.Which.TheVariants.{Nuclei, Count}
 use Rattle.record.proofs.Sizes.{reaching, within_layout, candidates_layout}

@@ -6,22 +6,8 @@ use Rattle.laws.specs.Rules.{Rule, rule, first_of}
 use Rattle.record.specs.Layout.{trailer_start, trailer_of, layout_of, limits_of}
 use Rattle.record.specs.Conditions.{stub, other_edition, oversized, overreaching, bad_track, bad_cost, bare, repeated, bad_units, bad_column, short_desk}
 use Rattle.limits.specs.declared.edition.Limits.{Limits}
-use Rattle.record.specs.declared.refusal.Refusal.{Refusal}
-use Rattle.record.specs.declared.refusal.Refusal.TheVariants.{Stub, Edition, Size, Reach, Track, Cost, Bare, Twice, Units, Column, Desk}
-
--- the numbers of the table "What the decoder says no with"
-abbrev pub number_of : Refusal → ℕ
-number_of Stub = 1
-number_of Edition = 2
-number_of Size = 3
-number_of Reach = 4
-number_of Track = 5
-number_of Cost = 6
-number_of Bare = 7
-number_of Twice = 8
-number_of Units = 9
-number_of Column = 10
-number_of Desk = 11
+use Rattle.limits.specs.declared.refusal.Refusal.{Refusal}
+use Rattle.limits.specs.declared.refusal.Refusal.TheVariants.{Stub, Edition, Size, Reach, Track, Cost, Bare, Twice, Units, Column, Desk}
 
 -- 1 to 4: what the length and the trailer say.
 unfoldable pub trailer_rules : Limits → List ℕ → List (Rule Refusal)

@@ -7,5 +7,4 @@ pub mod bytes;
 pub mod format;
 pub mod layout;
 pub mod read;
-pub mod refusal;
 pub mod trailer;

@@ -7,9 +7,9 @@ pub enum Which {
     Count,
 }
 
-// The speech edges.
+// The speech edges of a record that has some.
 #[derive(Clone, Copy)]
-pub enum Edges {
-    Silent,
-    Spoken(u32, u32),
+pub struct Edges {
+    pub start: u32,
+    pub end: u32,
 }

@@ -8,11 +8,9 @@
 
 #![tactic(auto)]
 
-ghost use Rattle.std.specs.Prelude.{◌+◌, ◌≤◌, ◌<◌, length};
-
 use checks::{check, check_areas};
-use record::bytes::u32_at;
-use record::refusal::Checked;
+use limits::refusal::Refusal;
+use record::layout::Layout;
 use std::io;
 use whole_input::read_full;
 
@@ -22,27 +20,58 @@ const MOST_INPUT: usize = 65536;
 // The longest record of a case.
 const MOST: usize = 65540;
 
-fn word(input: &[u8], at: usize) -> usize
-    ensures { result < 4294967296 }
-{
-    if input.len() < 4 {
+// The bytes of a case before its changes, and of a change.
+const CASE_BYTES: usize = 28;
+
+const CHANGE_BYTES: usize = 8;
+
+// A word by its place in bytes; 0 past the end.
+fn word(input: &[u8], at: usize) -> u32 {
+    let Some(rest) = input.get(at..) else {
         return 0;
+    };
+    rest.first_chunk()
+        .map_or(0, |word| u32::from_le_bytes(*word))
+}
+
+// What a case says before its changes.
+#[derive(Clone, Copy)]
+struct Case {
+    long: u32,
+    base: u32,
+    base_long: u32,
+    best: u32,
+    back: u32,
+    out: u32,
+    changes: u32,
+}
+
+fn case_of(words: &[u8]) -> Case {
+    Case {
+        long: word(words, 0),
+        base: word(words, 4),
+        base_long: word(words, 8),
+        best: word(words, 12),
+        back: word(words, 16),
+        out: word(words, 20),
+        changes: word(words, 24),
     }
-    if at > input.len() - 4 {
-        return 0;
-    }
-    u32_at(input, at) as usize
 }
 
 // The byte at a place counted from the last: of the base, or 0 before it.
-fn base_byte(input: &[u8], base: usize, long: usize, place: usize) -> u8
-    requires { (base < 4294967296) × (long < 4294967296) }
-{
-    if place >= long {
+fn base_byte(input: &[u8], case: Case, place: usize) -> u8 {
+    let base_long = case.base_long as usize;
+    if place >= base_long {
         return 0;
     }
-    let at = base + (long - 1 - place);
-    if at < input.len() { input[at] } else { 0 }
+    let at = case.base as usize + (base_long - 1 - place);
+    input.get(at).copied().unwrap_or(0)
+}
+
+fn lay(input: &[u8], case: Case, record: &mut [u8]) {
+    for (place, byte) in record.iter_mut().rev().enumerate() {
+        *byte = base_byte(input, case, place);
+    }
 }
 
 // Sets the byte at a place counted from the last; a place before the record changes nothing.
@@ -53,77 +82,45 @@ fn put(record: &mut [u8], place: usize, value: u8) {
     }
 }
 
-fn lay(input: &[u8], base: usize, long: usize, record: &mut [u8])
-    requires { (base < 4294967296) × (long < 4294967296) }
-{
-    let mut place = 0;
-    while place < MOST {
-        put(record, place, base_byte(input, base, long, place));
-        place += 1;
-    }
-}
-
-fn change(input: &[u8], at: usize, changes: usize, record: &mut [u8])
-    requires { (at < 4294967296) × (changes < 4294967296) }
-{
-    let mut j = 0;
-    while j < changes {
-        let place = word(input, at + 8 * j);
-        let value = word(input, at + 8 * j + 4) % 256;
+fn change(words: &[u8], changes: u32, record: &mut [u8]) {
+    for j in 0..changes as usize {
+        let at = CASE_BYTES + CHANGE_BYTES * j;
+        let place = word(words, at) as usize;
+        let value = word(words, at + 4) % 256;
         put(record, place, value as u8);
-        j += 1;
     }
 }
 
-fn number(checked: Checked) -> u64 {
+fn number(checked: Result<Layout, Refusal>) -> u32 {
     match checked {
-        Checked::Refused(refusal) => refusal.number() as u64,
-        Checked::Accepted(_) => 0,
+        Err(refusal) => u32::from(refusal),
+        Ok(_) => 0,
     }
 }
 
-fn report(rt: &impl Print, record: &[u8], best: usize, back: usize, out: usize) -> io::Result<()> {
+fn report(rt: &impl Print, record: &[u8], case: Case) -> io::Result<()> {
     let without = number(check(record));
-    let with = number(check_areas(record, best, back, out));
+    let with = number(check_areas(
+        record,
+        case.best as usize,
+        case.back as usize,
+        case.out as usize,
+    ));
     println!(rt; "{without} {with}")
 }
 
-fn run(
-    rt: &impl Print,
-    input: &[u8],
-    at: usize,
-    changes: usize,
-    record: &mut [u8],
-) -> io::Result<()>
-    requires { (at < 65536) × (changes < 4294967296) }
-{
-    lay(input, word(input, at + 4), word(input, at + 8), record);
-    change(input, at + 28, changes, record);
-    report(
-        rt,
-        record,
-        word(input, at + 12),
-        word(input, at + 16),
-        word(input, at + 20),
-    )
-}
-
-fn least(a: usize, b: usize) -> usize
-    ensures { (result ≤ a) × (result ≤ b) }
-{
-    if a < b { a } else { b }
-}
-
 // The first word says where the cases start.
-fn run_all(rt: &impl Print, input: &[u8], space: &mut [u8]) -> io::Result<()>
-    requires { length input.now ≤ 65536 }
-{
-    let mut at = word(input, 0);
-    while at < input.len() {
-        let long = least(word(input, at), space.len());
-        let changes = word(input, at + 24);
-        run(rt, input, at, changes, &mut space[..long])?;
-        at = at + 28 + 8 * changes;
+fn run_all(rt: &impl Print, input: &[u8], space: &mut [u8]) -> io::Result<()> {
+    let mut cases = input.get(word(input, 0) as usize..).unwrap_or(&[]);
+    while !cases.is_empty() {
+        let case = case_of(cases);
+        let long = space.len().min(case.long as usize);
+        let record = &mut space[..long];
+        lay(input, case, record);
+        change(cases, case.changes, record);
+        report(rt, record, case)?;
+        let end = CASE_BYTES + CHANGE_BYTES * case.changes as usize;
+        cases = cases.get(end..).unwrap_or(&[]);
     }
     Ok(())
 }

@@ -1,2 +1,2 @@
--- A law that the loops over cells cite.
+-- A law that the searches through cells cite.
 mod Cells

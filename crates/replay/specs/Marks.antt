@@ -1,6 +1,6 @@
 -- What lent memory holds before a call, a mark in every cell, and what is wanted of it afterwards.
 use Rattle.std.specs.Prelude.{ℕ, ◌+◌, ◌*◌, Bool, not, cond, ◌&&◌, List, eqb, ltb, Float, length, get_or}
-use Rattle.std.specs.Float.{nan, binary64}
+use Rattle.std.specs.Float.{binary64}
 use Rattle.std.specs.Float.Ieee.{is_nan, of_bits, to_bits}
 use Rattle.record.specs.Below.{any_below}
 use Rattle.record.specs.Bytes.{u32_at}
@@ -17,23 +17,17 @@ abbrev pub word_at : List ℕ → ℕ → ℕ
 word_at body at = cond (ltb (length body) (at + 4)) 0 (u32_at body at)
 
 -- of a work area the first cells are 0, and the others keep the mark
-abbrev pub zero_or_mark : ℕ → ℕ → ℕ
-zero_or_mark count i = cond (ltb i count) 0 mark
-
-abbrev pub float_zero_or_mark : ℕ → ℕ → Float
-float_zero_or_mark count i = cond (ltb i count) (of_bits binary64 0) float_mark
+abbrev pub zero_or_mark : {A : Type 0} → A → A → ℕ → ℕ → A
+zero_or_mark zero kept count i = cond (ltb i count) zero kept
 
 -- of an output the first cells have the case's first words, and the others keep the mark
 abbrev pub word_or_mark : List ℕ → ℕ → ℕ → ℕ
 word_or_mark body count i = cond (ltb i count) (word_at body (4 * i)) mark
 
--- some cell is not what is wanted there
-abbrev pub unlike : (ℕ → ℕ) → List ℕ → Bool
-unlike wanted cells = any_below (λ i. not (eqb (get_or cells i 0) (wanted i))) (length cells)
-
 -- two floats have the same bits; no NaN has any
 unfoldable pub same_float : Float → Float → Bool
 same_float x y = not (is_nan x) && (not (is_nan y) && eqb (to_bits binary64 x) (to_bits binary64 y))
 
-abbrev pub unlike_floats : (ℕ → Float) → List Float → Bool
-unlike_floats wanted cells = any_below (λ i. not (same_float (get_or cells i nan) (wanted i))) (length cells)
+-- some cell is not the same as what is wanted there
+abbrev pub unlike : {A : Type 0} → (A → A → Bool) → A → (ℕ → A) → List A → Bool
+unlike same past wanted cells = any_below (λ i. not (same (get_or cells i past) (wanted i))) (length cells)

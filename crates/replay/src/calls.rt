@@ -1,7 +1,8 @@
-// The entries that take no record. After the words that the call leaves, a case has its figures, and its lists or masks.
+// The entries that take no record. A case has its figures, and its lists or masks.
 
-use crate::input::{Answer, float, least, list, word};
-use crate::marks::{FLOAT_MARK, MARK, not_written, same_float};
+use crate::case::Case;
+use crate::input::{float, word};
+use crate::marks::{Cell, not_written};
 use tikuwero::{tikuwero_creaky_tail, tikuwero_joins, tikuwero_rate_s, tikuwero_tbu_spans};
 
 // More than the longest list, and more words than its spans have.
@@ -9,78 +10,59 @@ const MOST_FRAMES: usize = 80;
 
 const MOST_OUT: usize = 140;
 
-fn rate_or_mark(body: &[u8], answer: Answer) -> f64 {
-    if answer.accepted() {
-        float(word(body, 0), word(body, 4))
-    } else {
-        FLOAT_MARK
+fn rate_or_mark(case: Case) -> f64 {
+    match case.answer {
+        Ok(_) => float(word(case.body, 0), word(case.body, 4)),
+        Err(_) => f64::MARK,
     }
 }
 
 // How many frames, the default, the frames.
-pub(crate) fn rate_s(body: &[u8], answer: Answer) -> bool {
-    let at = 4 * (answer.words as usize);
-    let mut frames = [0u32; MOST_FRAMES];
-    let n = list(body, at + 12, word(body, at), &mut frames);
-    let default_s = float(word(body, at + 4), word(body, at + 8));
-    let mut rate = FLOAT_MARK;
-    let returned = tikuwero_rate_s(&frames[..n], default_s, &mut rate);
-    (returned == answer.status()) & same_float(rate, rate_or_mark(body, answer))
-}
-
-fn spans_agree(
-    body: &[u8],
-    answer: Answer,
-    nuclei: &[u32],
-    bounds: &[u32],
-    out: &mut [u32],
-) -> bool {
-    let words = answer.words as usize;
-    let room = least(word(body, 4 * words + 8), out.len());
-    let lo_edge = word(body, 4 * words + 12);
-    let hi_edge = word(body, 4 * words + 16);
-    let returned = tikuwero_tbu_spans(nuclei, bounds, lo_edge, hi_edge, &mut out[..room]);
-    (returned == answer.status()) & !not_written(out, body, words)
+pub(crate) fn rate_s(case: Case) -> bool {
+    let mut arguments = case.arguments();
+    let count = arguments.word();
+    let default_s = arguments.float();
+    let mut cells = [0u32; MOST_FRAMES];
+    let frames = arguments.list(count, &mut cells);
+    let mut rate = f64::MARK;
+    let returned = tikuwero_rate_s(frames, default_s, &mut rate);
+    case.returns(returned) && rate.same(rate_or_mark(case))
 }
 
 // How many nuclei, how many boundaries, the words of the output, the edges, the nuclei, the boundaries.
-pub(crate) fn tbu_spans(body: &[u8], answer: Answer) -> bool {
-    let at = 4 * (answer.words as usize);
-    let mut nuclei = [0u32; MOST_FRAMES];
-    let n = list(body, at + 20, word(body, at), &mut nuclei);
-    let mut bounds = [0u32; MOST_FRAMES];
-    let b = list(body, at + 20 + 4 * n, word(body, at + 4), &mut bounds);
-    let mut out = [MARK; MOST_OUT];
-    spans_agree(body, answer, &nuclei[..n], &bounds[..b], &mut out)
+pub(crate) fn tbu_spans(case: Case) -> bool {
+    let mut arguments = case.arguments();
+    let nucleus_count = arguments.word();
+    let bound_count = arguments.word();
+    let room = (arguments.word() as usize).min(MOST_OUT);
+    let lo_edge = arguments.word();
+    let hi_edge = arguments.word();
+    let mut nucleus_cells = [0u32; MOST_FRAMES];
+    let nuclei = arguments.list(nucleus_count, &mut nucleus_cells);
+    let mut bound_cells = [0u32; MOST_FRAMES];
+    let bounds = arguments.list(bound_count, &mut bound_cells);
+    let mut out = [u32::MARK; MOST_OUT];
+    let returned = tikuwero_tbu_spans(nuclei, bounds, lo_edge, hi_edge, &mut out[..room]);
+    case.returns(returned) && !not_written(&out, case.body, case.words)
 }
 
 // How long the voice mask is, the edges; the voice mask, and up to the end the pitch mask.
-pub(crate) fn joins(body: &[u8], answer: Answer) -> bool {
-    if body.len() < 12 {
-        return false;
-    }
-    let split = 12 + least(word(body, 0), body.len() - 12);
-    let returned = tikuwero_joins(
-        &body[12..split],
-        &body[split..],
-        word(body, 4),
-        word(body, 8),
-    );
-    returned == answer.status()
+pub(crate) fn joins(case: Case) -> bool {
+    let mut arguments = case.arguments();
+    let len = arguments.word();
+    let start = arguments.word();
+    let end = arguments.word();
+    let voice = arguments.bytes(len);
+    case.returns(tikuwero_joins(voice, arguments.left, start, end))
 }
 
 // How long the pitch mask is, the edges, the next nucleus; the pitch mask, and up to the end that of vowel speech.
-pub(crate) fn creaky_tail(body: &[u8], answer: Answer) -> bool {
-    if body.len() < 16 {
-        return false;
-    }
-    let split = 16 + least(word(body, 0), body.len() - 16);
-    let returned = tikuwero_creaky_tail(
-        word(body, 4),
-        word(body, 8),
-        word(body, 12),
-        &body[16..split],
-        &body[split..],
-    );
-    returned == answer.status()
+pub(crate) fn creaky_tail(case: Case) -> bool {
+    let mut arguments = case.arguments();
+    let len = arguments.word();
+    let start = arguments.word();
+    let end = arguments.word();
+    let next = arguments.word();
+    let pitched = arguments.bytes(len);
+    case.returns(tikuwero_creaky_tail(start, end, next, pitched, arguments.left))
 }

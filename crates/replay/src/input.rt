@@ -1,86 +1,62 @@
-// What a stored case holds: words, lists and floats, little-endian, and what the call is to answer.
+// What a stored case holds: words, lists and floats, little-endian.
 
-ghost use Rattle.std.specs.Prelude.{◌+◌, ◌*◌, ◌^◌, ◌≤◌, ◌<◌, length, ◌≡◌};
-ghost use Rattle.io.specs.Counts.{IsPrefixLen};
+ghost use Rattle.std.specs.Prelude.{◌≡◌, ◌-◌, ◌++◌, length, min};
 ghost use Rattle.replay.specs.Marks.{word_at};
 
 use record::bytes::u32_at;
-
-// The number of the refusal, or 0; what is returned where there is none; and how many words the call leaves in lent memory, which are
-// the first of the case.
-#[derive(Clone, Copy)]
-pub(crate) struct Answer {
-    pub(crate) refusal: u32,
-    pub(crate) returned: u32,
-    pub(crate) words: u32,
-}
-
-// A number as it stands, or one that no call returns.
-fn returnable(n: u32) -> u32
-    ensures { result < 2 ^ 31 }
-{
-    if n < 2147483648 { n } else { 2147483646 }
-}
-
-impl Answer {
-    pub(crate) fn accepted(self) -> bool {
-        self.refusal == 0
-    }
-
-    // As the C interface returns it.
-    pub(crate) fn status(self) -> i32 {
-        if self.refusal == 0 {
-            returnable(self.returned) as i32
-        } else {
-            -(returnable(self.refusal) as i32)
-        }
-    }
-}
+use std::num::f64_from_bits_with_nan;
 
 // The word at a place; 0 past the end.
-pub(crate) fn word(body: &[u8], at: usize) -> u32
-    ensures { result ≡ word_at body.now at }
+pub(crate) fn word(bytes: &[u8], at: usize) -> u32
+    ensures { result ≡ word_at bytes.now at }
 {
-    if body.len() < 4 {
-        return 0;
+    if bytes.len() < 4 || at > bytes.len() - 4 {
+        0
+    } else {
+        u32_at(bytes, at)
     }
-    if at > body.len() - 4 {
-        return 0;
-    }
-    u32_at(body, at)
-}
-
-pub(crate) fn byte(body: &[u8], at: usize) -> u8 {
-    if at < body.len() { body[at] } else { 0 }
 }
 
 // The float of two words, the lower half first; for the pattern of a NaN, some NaN.
 pub(crate) fn float(low: u32, high: u32) -> f64 {
-    let bits = low as u64 + 4294967296 * (high as u64);
-    if bits % 0x8000_0000_0000_0000 > 0x7ff0_0000_0000_0000 {
-        0.0 / 0.0
-    } else {
-        f64::from_bits(bits)
-    }
+    f64_from_bits_with_nan(u64::from(low) + (u64::from(high) << 32))
 }
 
-pub(crate) fn least(n: u32, most: usize) -> usize
-    ensures { result ≤ most }
-{
-    let n = n as usize;
-    if n < most { n } else { most }
+// What is left to be read of a case's arguments. Past their end there are zeros.
+#[derive(Clone, Copy)]
+pub(crate) struct Arguments<'a> {
+    pub(crate) left: &'a [u8],
 }
 
-// Puts so many words into the cells, as far as there is room, and answers how many.
-pub(crate) fn list(body: &[u8], at: usize, count: u32, cells: &mut [u32]) -> usize
-    requires { at + 4 * length cells.old < 2 ^ 64 }
-    ensures { IsPrefixLen result cells.new }
-{
-    let len = least(count, cells.len());
-    let mut i = 0;
-    while i < len {
-        cells[i] = word(body, at + 4 * i);
-        i += 1;
+impl<'a> Arguments<'a> {
+    // So many bytes, as far as there are any.
+    pub(crate) fn bytes(&mut self, count: u32) -> &'a [u8]
+        ensures parts { self.old.left.now ≡ result.now ++ self.new.left.now }
+        ensures counted { length result.now ≡ min count (length self.old.left.now) }
+    {
+        let (next, left) = self.left.split_at(self.left.len().min(count as usize));
+        self.left = left;
+        next
     }
-    len
+
+    pub(crate) fn word(&mut self) -> u32
+        ensures { length self.new.left.now ≡ length self.old.left.now - 4 }
+    {
+        word(self.bytes(4), 0)
+    }
+
+    pub(crate) fn float(&mut self) -> f64 {
+        let low = self.word();
+        float(low, self.word())
+    }
+
+    // Puts so many words into the cells, as far as there is room, and answers with those.
+    pub(crate) fn list<'c>(&mut self, count: u32, cells: &'c mut [u32]) -> &'c [u32] {
+        let room = cells.len().min(count as usize);
+        let listed = &mut cells[..room];
+        for cell in listed.iter_mut() {
+            *cell = self.word();
+        }
+        listed
+    }
 }

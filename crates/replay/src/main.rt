@@ -9,18 +9,15 @@
 #![tactic(auto)]
 
 mod calls;
+mod case;
 mod counting;
 mod decodings;
 mod input;
 mod marks;
 mod pieces;
 
-ghost use Rattle.std.specs.Prelude.{◌≡◌, ◌≤◌, length, IfOk};
-
-use crate::input::{Answer, word};
+use crate::case::{Case, Entry, next_case};
 use std::io;
-use std::io::Read;
-use whole_input::read_full;
 
 // More bytes than any case of the sample has, and than any record.
 const MOST_BODY: usize = 70000;
@@ -33,94 +30,41 @@ const MOST_CASES: u32 = 100000;
 // How many of the cases that differ are printed.
 const MOST_PRINTED: u32 = 5;
 
-// A case: its entry, 0 after the last one; how many bytes its arguments and its words have; and what is to be answered.
+// Of an entry's cases, how many there are, how many are refused, and how many agree.
 #[derive(Clone, Copy)]
-struct Case {
-    entry: u32,
-    len: usize,
-    answer: Answer,
+struct Tally {
+    replayed: u32,
+    refused: u32,
+    agree: u32,
 }
 
-fn no_case() -> Case
-    ensures { result.len ≡ 0 }
-{
-    Case {
-        entry: 0,
-        len: 0,
-        answer: Answer {
-            refusal: 0,
-            returned: 0,
-            words: 0,
-        },
+impl Tally {
+    fn count(&mut self, refused: bool, agrees: bool) {
+        self.replayed = self.replayed.saturating_add(1);
+        self.refused = self.refused.saturating_add(u32::from(refused));
+        self.agree = self.agree.saturating_add(u32::from(agrees));
     }
 }
 
-// Reads the next case. An input that ends within a case ends before it.
-fn next_case<R: Read>(stored: &mut R, body: &mut [u8]) -> io::Result<Case>
-    ensures { IfOk result (λ case. case.len ≤ length body.new) }
-{
-    let mut head = [0u8; 20];
-    if read_full(stored, &mut head)? < 20 {
-        return Ok(no_case());
-    }
-    let len = word(&head, 4) as usize;
-    if len > body.len() {
-        return Ok(no_case());
-    }
-    if read_full(stored, &mut body[..len])? < len {
-        return Ok(no_case());
-    }
-    Ok(Case {
-        entry: word(&head, 0),
-        len,
-        answer: Answer {
-            refusal: word(&head, 8),
-            returned: word(&head, 12),
-            words: word(&head, 16),
-        },
-    })
-}
-
-fn replay(entry: u32, body: &[u8], answer: Answer, record: &mut [u8]) -> bool {
+fn agrees(entry: Entry, case: Case, record: &mut [u8]) -> bool {
     match entry {
-        1 => decodings::decode(body, answer, record),
-        2 => calls::rate_s(body, answer),
-        3 => calls::tbu_spans(body, answer),
-        4 => calls::joins(body, answer),
-        5 => calls::creaky_tail(body, answer),
-        6 => counting::most_units(body, answer, record),
-        _ => false,
+        Entry::Decode => decodings::decode(case, record),
+        Entry::RateS => calls::rate_s(case),
+        Entry::TbuSpans => calls::tbu_spans(case),
+        Entry::Joins => calls::joins(case),
+        Entry::CreakyTail => calls::creaky_tail(case),
+        Entry::MostUnits => counting::most_units(case, record),
     }
 }
 
-fn one_more(n: u32) -> u32 {
-    if n < MOST_CASES { n + 1 } else { n }
-}
-
-fn count(counts: &mut [u32], i: usize, yes: bool) {
-    if !yes {
-        return;
-    }
-    if i < counts.len() {
-        counts[i] = one_more(counts[i]);
-    }
-}
-
-// For each entry there are three counts: of the cases, of those that are refused, and of those that agree.
-fn tally(counts: &mut [u32], entry: u32, refused: bool, agrees: bool) {
-    let at = 3 * (entry as usize);
-    count(counts, at, true);
-    count(counts, at + 1, refused);
-    count(counts, at + 2, agrees);
-}
-
-// Prints the number of a case that differs, unless enough are printed, and answers how many are.
-fn differs(rt: &impl Print, number: u32, printed: u32) -> io::Result<u32> {
-    if printed >= MOST_PRINTED {
-        return Ok(printed);
-    }
-    println!(rt; "case {number} differs")?;
-    Ok(printed + 1)
+// Whether the case agrees, counted for its entry. A case of no known entry agrees with nothing.
+fn replay(case: Case, record: &mut [u8], tallies: &mut [Tally; 6]) -> bool {
+    let Ok(entry) = case.entry else {
+        return false;
+    };
+    let agrees = agrees(entry, case, record);
+    tallies[entry as usize].count(case.answer.is_err(), agrees);
+    agrees
 }
 
 // Replays case after case, up to the end of the input.
@@ -128,46 +72,46 @@ fn replay_all(
     rt: &(impl Input + Print),
     body: &mut [u8],
     record: &mut [u8],
-    counts: &mut [u32],
-) -> io::Result<()> {
+) -> io::Result<[Tally; 6]> {
+    let none = Tally {
+        replayed: 0,
+        refused: 0,
+        agree: 0,
+    };
+    let mut tallies = [none; 6];
     let mut stored = rt.reader();
     let mut printed = 0;
-    let mut number = 0;
-    while number < MOST_CASES {
-        let case = next_case(&mut stored, body)?;
-        let len = case.len;
-        if case.entry == 0 {
-            return Ok(());
-        }
-        let agrees = replay(case.entry, &body[..len], case.answer, record);
-        tally(counts, case.entry, !case.answer.accepted(), agrees);
-        number += 1;
-        if !agrees {
-            printed = differs(rt, number, printed)?;
+    for number in 1..=MOST_CASES {
+        let Some(case) = next_case(&mut stored, body)? else {
+            break;
+        };
+        if !replay(case, record, &mut tallies) && printed < MOST_PRINTED {
+            println!(rt; "case {number} differs")?;
+            printed += 1;
         }
     }
-    Ok(())
-}
-
-fn print_line(
-    rt: &impl Print,
-    name: &str,
-    replayed: u32,
-    refused: u32,
-    agree: u32,
-) -> io::Result<()> {
-    println!(rt; "{name}: {replayed} replayed, {refused} of them refused, {agree} agree")
+    Ok(tallies)
 }
 
 fn main(rt: HostRuntime) -> io::Result<()> {
     let mut body = [0u8; MOST_BODY];
     let mut record = [0u8; MOST_RECORD];
-    let mut counts = [0u32; 21];
-    replay_all(&rt, &mut body, &mut record, &mut counts)?;
-    print_line(&rt, "decode", counts[3], counts[4], counts[5])?;
-    print_line(&rt, "rate_s", counts[6], counts[7], counts[8])?;
-    print_line(&rt, "tbu_spans", counts[9], counts[10], counts[11])?;
-    print_line(&rt, "joins", counts[12], counts[13], counts[14])?;
-    print_line(&rt, "creaky_tail", counts[15], counts[16], counts[17])?;
-    print_line(&rt, "most_units", counts[18], counts[19], counts[20])
+    let tallies = replay_all(&rt, &mut body, &mut record)?;
+    let names = [
+        "decode",
+        "rate_s",
+        "tbu_spans",
+        "joins",
+        "creaky_tail",
+        "most_units",
+    ];
+    for (name, tally) in names.iter().zip(&tallies) {
+        let Tally {
+            replayed,
+            refused,
+            agree,
+        } = *tally;
+        println!(rt; "{name}: {replayed} replayed, {refused} of them refused, {agree} agree")?;
+    }
+    Ok(())
 }

@@ -1,87 +1,102 @@
 // What lent memory holds before a call, a mark in every cell, and what it is to hold afterwards.
 
-ghost use Rattle.std.specs.Prelude.{◌||◌, ◌≡◌, ◌*◌, ◌^◌, ◌<◌, ltb, length};
-ghost use Rattle.replay.specs.Marks.{zero_or_mark, word_or_mark, unlike, float_zero_or_mark, same_float, unlike_floats};
+ghost use Rattle.std.specs.Prelude.{◌||◌, ◌≡◌, Float, Bool, eqb, ltb, length};
+ghost use Rattle.std.specs.Float.{nan, binary64};
+ghost use Rattle.std.specs.Float.Ieee.{of_bits};
+ghost use Rattle.replay.specs.Marks.{mark, float_mark, zero_or_mark, word_or_mark, unlike, same_float};
 
 use crate::input::word;
 
-pub(crate) const MARK: u32 = 0xdead_beef;
+// A cell of lent memory: its mark, and when two are the same.
+pub(crate) trait Cell: Copy {
+    const MARK: Self;
 
-pub(crate) const FLOAT_MARK: f64 = 7777.25;
+    const ZERO: Self;
 
-fn zero_or_mark(i: usize, count: usize) -> u32
-    ensures { result ≡ zero_or_mark count i }
+    ghost MARK: { Self };
+
+    ghost ZERO: { Self };
+
+    // What a clause reads past the last cell.
+    ghost past: { Self };
+
+    ghost same: { Self → Self → Bool };
+
+    fn same(self, other: Self) -> bool
+        ensures { result ≡ same self other };
+}
+
+impl Cell for u32 {
+    const MARK: u32 = 0xdead_beef;
+
+    const ZERO: u32 = 0;
+
+    ghost MARK = { mark };
+
+    ghost ZERO = { 0 };
+
+    ghost past = { 0 };
+
+    ghost same = { eqb };
+
+    fn same(self, other: u32) -> bool {
+        self == other
+    }
+}
+
+// +0 and -0 are told apart, and no NaN is the same as any.
+impl Cell for f64 {
+    const MARK: f64 = 7777.25;
+
+    const ZERO: f64 = 0.0;
+
+    ghost MARK = { float_mark };
+
+    ghost ZERO = { of_bits binary64 0 };
+
+    ghost past = { nan };
+
+    ghost same = { same_float };
+
+    #[tactic(auto, unfolding(crate::specs::Marks::same_float))]
+    fn same(self, other: f64) -> bool {
+        !self.is_nan() && !other.is_nan() && self.to_bits() == other.to_bits()
+    }
+}
+
+fn zero_or_mark<T: Cell>(i: usize, count: usize) -> T
+    ensures { result ≡ zero_or_mark T.ZERO T.MARK count i }
 {
-    if i < count { 0 } else { MARK }
+    if i < count { T::ZERO } else { T::MARK }
 }
 
 // Whether some cell is not as it should be: 0 in the first cells, so many, and the mark in the others.
-pub(crate) fn not_cleared(cells: &[u32], count: usize) -> bool
-    ensures { result ≡ unlike (zero_or_mark count) cells.now }
+pub(crate) fn not_cleared<T: Cell>(cells: &[T], count: usize) -> bool
+    ensures { result ≡ unlike T.same T.past (zero_or_mark T.ZERO T.MARK count) cells.now }
 {
-    let mut i = 0;
-    while i < cells.len() {
-        if cells[i] != zero_or_mark(i, count) {
-            return true;
-        }
-        i += 1;
-    }
-    false
+    cells
+        .iter()
+        .enumerate()
+        .any(|(i, cell)| !cell.same(zero_or_mark(i, count)))
 }
 
-fn word_or_mark(body: &[u8], i: usize, count: usize) -> u32
-    requires { 4 * i < 2 ^ 64 }
+fn word_or_mark(body: &[u8], i: usize, count: u32) -> u32
     ensures { result ≡ word_or_mark body.now count i }
 {
-    if i < count { word(body, 4 * i) } else { MARK }
+    if i < count as usize {
+        word(body, 4 * i)
+    } else {
+        u32::MARK
+    }
 }
 
 // Whether some cell is not as it should be: the case's first words, so many, and the mark in the other cells.
-pub(crate) fn not_written(cells: &[u32], body: &[u8], count: usize) -> bool
-    ensures { result ≡ (ltb (length cells.now) count || unlike (word_or_mark body.now count) cells.now) }
+pub(crate) fn not_written(cells: &[u32], body: &[u8], count: u32) -> bool
+    ensures { result ≡ (ltb (length cells.now) count || unlike eqb 0 (word_or_mark body.now count) cells.now) }
 {
-    if cells.len() < count {
-        return true;
-    }
-    let mut i = 0;
-    while i < cells.len() {
-        if cells[i] != word_or_mark(body, i, count) {
-            return true;
-        }
-        i += 1;
-    }
-    false
-}
-
-// Whether two floats are the same, +0 and -0 told apart; no NaN is.
-pub(crate) fn same_float(x: f64, y: f64) -> bool
-    ensures { result ≡ same_float x y }
-{
-    if x != x {
-        return false;
-    }
-    if y != y {
-        return false;
-    }
-    f64::to_bits(x) == f64::to_bits(y)
-}
-
-fn float_zero_or_mark(i: usize, count: usize) -> f64
-    ensures { result ≡ float_zero_or_mark count i }
-{
-    if i < count { 0.0 } else { FLOAT_MARK }
-}
-
-// As `not_cleared`, for floats: the first cells are +0.
-pub(crate) fn floats_not_cleared(cells: &[f64], count: usize) -> bool
-    ensures { result ≡ unlike_floats (float_zero_or_mark count) cells.now }
-{
-    let mut i = 0;
-    while i < cells.len() {
-        if !same_float(cells[i], float_zero_or_mark(i, count)) {
-            return true;
-        }
-        i += 1;
-    }
-    false
+    cells.len() < count as usize
+        || cells
+            .iter()
+            .enumerate()
+            .any(|(i, cell)| !cell.same(word_or_mark(body, i, count)))
 }

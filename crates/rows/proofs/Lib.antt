@@ -1,5 +1,9 @@
--- What is proved of the cells of the work areas, and of what arrives in a row.
+-- What is proved of the cells of the work areas, of what arrives in a row, and of the rows, their ends and the way back as they are gone through.
 pub mod Cells
 pub mod Lists
 mod Arrivals
 mod Kept
+mod Starting
+mod Filling
+mod Tracing
+mod Ending

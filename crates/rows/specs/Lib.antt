@@ -4,5 +4,6 @@ pub mod Ways
 pub mod Rows
 pub mod Units
 pub mod Reads
+pub mod Inputs
 pub mod Ends
 pub mod Traced

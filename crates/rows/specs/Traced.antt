@@ -1,9 +1,9 @@
--- The units that the marks lead back to, as the code's arrays hold them.
+-- The units that the marks lead back to, as the code's array holds them.
 use Rattle.std.specs.Prelude.{ℕ, ◌+◌, ◌-◌, ◌*◌, List, ◌++◌, map, ◌≡◌, length, get_or, replicate}
 use Rattle.limits.specs.Capacity.{most_units}
 use Rattle.paths.specs.Inner.Marks.{Traces}
 use Rattle.paths.specs.Path.{Bounds}
-use Rattle.rows.specs.declared.trace.Units.{Units}
+use Rattle.rows.specs.declared.trace.Bounds.{Bounds as HeldBounds}
 
 -- the mark of the cell of s units and boundary j, in rows of n
 abbrev pub mark_in : List ℕ → ℕ → ℕ → ℕ → ℕ
@@ -13,16 +13,13 @@ mark_in back n s j = get_or back (s * n + j) 0
 abbrev pub Traceable : List ℕ → ℕ → ℕ → ℕ → Type 0
 Traceable back n s j = (units : List Bounds) × Traces (mark_in back n) s j units
 
--- so many numbers, of which the first are given and the others 0
-abbrev pub padded : ℕ → List ℕ → List ℕ
-padded size numbers = numbers ++ replicate (size - length numbers) 0
+-- the bounds of a unit as the code's struct has them
+abbrev pub held_bounds : Bounds → HeldBounds
+held_bounds unit = record { first = unit.first; last = unit.last }
 
-abbrev pub firsts_of : List Bounds → List ℕ
-firsts_of units = map (λ (unit : Bounds). unit.first) units
+abbrev pub no_bounds : HeldBounds
+no_bounds = record { first = 0; last = 0 }
 
-abbrev pub lasts_of : List Bounds → List ℕ
-lasts_of units = map (λ (unit : Bounds). unit.last) units
-
-pub record UnitsAre (r : Units) (units : List Bounds) : Type 0 where
-  pub firsts : r.first ≡ padded most_units (firsts_of units)
-  pub lasts : r.last ≡ padded most_units (lasts_of units)
+-- The first bounds are those of the units in path order, and the others 0.
+abbrev pub UnitsAre : List HeldBounds → List Bounds → Type 0
+UnitsAre held units = held ≡ map held_bounds units ++ replicate (most_units - length units) no_bounds

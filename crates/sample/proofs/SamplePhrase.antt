@@ -22,8 +22,8 @@ use Rattle.record.specs.Conditions.{oversized, overreaching, bad_track, bad_cost
 use Rattle.record.specs.Refusals.{trailer_rules, content_rules, first_rules, candidate_rules, own_rules, refusal_of, refusal_with}
 use Rattle.record.specs.Meaning.{phrase_at, phrase_of}
 use Rattle.sample.specs.Sample.{sample}
-use Rattle.record.specs.declared.refusal.Refusal.{Refusal}
-use Rattle.record.specs.declared.refusal.Refusal.TheVariants.{Stub, Edition, Size, Reach, Track, Cost, Bare, Twice, Units, Column, Desk}
+use Rattle.limits.specs.declared.refusal.Refusal.{Refusal}
+use Rattle.limits.specs.declared.refusal.Refusal.TheVariants.{Stub, Edition, Size, Reach, Track, Cost, Bare, Twice, Units, Column, Desk}
 
 pub long : length sample ≡ 1376
 unfolding sample

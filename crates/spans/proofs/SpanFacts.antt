@@ -8,11 +8,10 @@ use native.Mathlib.Omega.{arith}
 use lib.Dec.{T, ltb, ltb→lt, nltb→le}
 use lib.ListN.{length}
 use Rattle.laws.proofs.Tests.{by_choice}
-use Rattle.frames.specs.Frames.{highest_below, lowest_from, onward, ascending_from, or_else}
+use Rattle.frames.specs.Frames.{highest_below, lowest_from, onward, ascending_from}
 use Rattle.frames.specs.Theory.Order.{InOrder}
 use Rattle.spans.specs.Spans.{uncut_start, uncut_end, start_beside, end_beside, span_of, spans_of}
-use Rattle.frames.specs.declared.list.Nearest.{Nearest}
-use Rattle.frames.specs.declared.list.Nearest.TheVariants.{None, At}
+use Rattle.std.specs.Prelude.{Option, Some, None, unwrap_or}
 use Rattle.frames.proofs.Neighbours.{IsHighest, IsLowest, highest_is, lowest_is, lowest}
 use Rattle.spans.proofs.Cuts.{start_cut, end_cut, start_kept, end_kept}
 
@@ -20,16 +19,16 @@ use Rattle.spans.proofs.Cuts.{start_cut, end_cut, start_kept, end_kept}
 start_below : (bounds : List ℕ) (lo f : ℕ) → uncut_start bounds lo f ≤ f
 start_below bounds lo f = go (highest_below f bounds) (highest_is f bounds)
   where
-    go : (near : Nearest) → IsHighest f bounds near → or_else near (min lo f) ≤ f
+    go : (near : Option ℕ) → IsHighest f bounds near → unwrap_or near (min lo f) ≤ f
     go None is = omega arith
-    go (At b) is = let below = is.below in omega arith
+    go (Some b) is = let below = is.below in omega arith
 
 end_above : (bounds : List ℕ) (hi f : ℕ) → f < uncut_end bounds hi f
 end_above bounds hi f = go (lowest_from (f + 1) bounds) (lowest_is (f + 1) bounds)
   where
-    go : (near : Nearest) → IsLowest (f + 1) bounds near → f < or_else near (max hi (f + 1))
+    go : (near : Option ℕ) → IsLowest (f + 1) bounds near → f < unwrap_or near (max hi (f + 1))
     go None is = omega arith
-    go (At b) is = let above = is.from in omega arith
+    go (Some b) is = let above = is.from in omega arith
 
 module _ (frames bounds : List ℕ) (lo hi : ℕ) where
   -- each span holds its nucleus
@@ -37,25 +36,25 @@ module _ (frames bounds : List ℕ) (lo hi : ℕ) where
   unfolding span_of
   starts_by f = go (highest_below f frames) (highest_is f frames)
     where
-      go : (near : Nearest) → IsHighest f frames near → start_beside bounds lo hi near f ≤ f
+      go : (near : Option ℕ) → IsHighest f frames near → start_beside bounds lo hi near f ≤ f
       go None is = start_below bounds lo f
-      go (At left) is = by_choice (λ (start : ℕ). start ≤ f) (ltb (uncut_start bounds lo f) (uncut_end bounds hi left)) (λ _. let below = is.below in omega arith) (λ _. start_below bounds lo f)
+      go (Some left) is = by_choice (λ (start : ℕ). start ≤ f) (ltb (uncut_start bounds lo f) (uncut_end bounds hi left)) (λ _. let below = is.below in omega arith) (λ _. start_below bounds lo f)
 
   pub ends_after : (f : ℕ) → f < (span_of frames bounds lo hi f).end
   unfolding span_of
   ends_after f = go (lowest_from (f + 1) frames) (lowest_is (f + 1) frames)
     where
-      go : (near : Nearest) → IsLowest (f + 1) frames near → f < end_beside bounds lo hi f near
+      go : (near : Option ℕ) → IsLowest (f + 1) frames near → f < end_beside bounds lo hi f near
       go None is = end_above bounds hi f
-      go (At right) is = by_choice (λ (end : ℕ). f < end) (ltb (uncut_start bounds lo right) (uncut_end bounds hi f)) (λ _. let above = is.from in omega arith) (λ _. end_above bounds hi f)
+      go (Some right) is = by_choice (λ (end : ℕ). f < end) (ltb (uncut_start bounds lo right) (uncut_end bounds hi f)) (λ _. let above = is.from in omega arith) (λ _. end_above bounds hi f)
 
   -- the right neighbour's left neighbour
-  back : {f g : ℕ} → Memᴰ f frames → lowest_from (f + 1) frames ≡ At g → highest_below g frames ≡ At f
+  back : {f g : ℕ} → Memᴰ f frames → lowest_from (f + 1) frames ≡ Some g → highest_below g frames ≡ Some f
   back {f} {g} m there = go (highest_below g frames) (highest_is g frames)
     where
-      go : (near : Nearest) → IsHighest g frames near → near ≡ At f
+      go : (near : Option ℕ) → IsHighest g frames near → near ≡ Some f
       go None is = absurd (let above = is f m in let up = (lowest (f + 1) frames there).from in omega arith)
-      go (At h) is = ap At (pick (ltb f h) (ltb→lt f h) (nltb→le f h))
+      go (Some h) is = ap Some (pick (ltb f h) (ltb→lt f h) (nltb→le f h))
         where
           pick : (b : Bool) → (T b → f < h) → (T (not b) → h ≤ f) → h ≡ f
           pick true up _ =
@@ -68,7 +67,7 @@ module _ (frames bounds : List ℕ) (lo hi : ℕ) where
               omega arith
 
   -- neighbours meet at the cut or do not overlap
-  meet : {f g : ℕ} → Memᴰ f frames → lowest_from (f + 1) frames ≡ At g
+  meet : {f g : ℕ} → Memᴰ f frames → lowest_from (f + 1) frames ≡ Some g
       → (span_of frames bounds lo hi f).end ≤ (span_of frames bounds lo hi g).start
   unfolding span_of
   meet {f} {g} m there = go (ltb s e) (ltb→lt s e) (nltb→le s e)
@@ -99,12 +98,12 @@ module _ (frames bounds : List ℕ) (lo hi : ℕ) where
   in_order_on zero {f = f} m h = (h, forward f, tt)
   in_order_on (suc n) {f = f} m h = (h, forward f, go (lowest_from (f + 1) frames) refl (lowest_is (f + 1) frames) (λ g there up. in_order_on n there up))
     where
-      go : (near : Nearest) → lowest_from (f + 1) frames ≡ near → IsLowest (f + 1) frames near
+      go : (near : Option ℕ) → lowest_from (f + 1) frames ≡ near → IsLowest (f + 1) frames near
           → ((g : ℕ) → Memᴰ g frames → (span_of frames bounds lo hi f).end ≤ (span_of frames bounds lo hi g).start
           → InOrder (span_of frames bounds lo hi f).end (map (span_of frames bounds lo hi) (g ∷ ascending_from n (g + 1) frames)))
           → InOrder (span_of frames bounds lo hi f).end (map (span_of frames bounds lo hi) (onward near (λ g. ascending_from n (g + 1) frames)))
       go None there is rest = tt
-      go (At g) there is rest = rest g is.member (meet m there)
+      go (Some g) there is rest = rest g is.member (meet m there)
 
   -- they stand in order and never overlap
   pub in_order : InOrder 0 (spans_of frames bounds lo hi)
@@ -115,7 +114,7 @@ module _ (frames bounds : List ℕ) (lo hi : ℕ) where
       from zero = tt
       from (suc n) = go (lowest_from 0 frames) (lowest_is 0 frames)
         where
-          go : (near : Nearest) → IsLowest 0 frames near
+          go : (near : Option ℕ) → IsLowest 0 frames near
               → InOrder 0 (map (span_of frames bounds lo hi) (onward near (λ g. ascending_from n (g + 1) frames)))
           go None is = tt
-          go (At g) is = in_order_on n is.member zero-le
+          go (Some g) is = in_order_on n is.member zero-le

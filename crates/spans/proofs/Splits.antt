@@ -1,17 +1,18 @@
 -- An ascending list split at a frame: the place of the split has the highest frame below and the lowest from there on. So each frame's
 -- neighbours stand beside it.
 use Prim.Native.Nat.{ℕ, zero, suc, ◌+◌, ◌≤◌, ◌<◌, max, min}
-use mathlib.Core.Path.{◌≡◌, refl, ap}
+use mathlib.Core.Path.{◌≡◌, refl, sym, ap}
 use mathlib.Core.List.{List, [], ◌∷◌}
 use mathlib.Core.Logic.{⊎_elim}
 use native.Mathlib.Nat.{not-suc-le-zero, le_of_suc-le-suc, eq-or-lt_of_le}
 use native.Mathlib.Numerals.{add-one}
 use native.Mathlib.Omega.{arith}
 use borrow.Author.Tests.{lt-ltb, le-ltb, lt-leb, le-leb}
-use lib.ListN.{length, get_or}
+use lib.ListN.{length, get_or, get_or-eq_default}
 use Rattle.laws.proofs.Numbers.{by_order}
 use Rattle.frames.specs.Frames.{highest_below, lowest_from}
-use Rattle.frames.specs.declared.list.Nearest.TheVariants.{None, At}
+use Rattle.std.specs.Prelude.{Some, None, unwrap_or}
+use Rattle.std.proofs.lemmas.List.{get_or_default}
 use Rattle.spans.specs.Inner.Walk.{Increasing, Below, Splits}
 
 climbs : (l : List ℕ) → Increasing l → (i j : ℕ) → i < j → j < length l → get_or l i 0 < get_or l j 0
@@ -51,7 +52,7 @@ module _ (f : ℕ) where
       let above : f ≤ x = s.rest (omega arith) in
       rw (le-ltb x f above) (none_before xs (later x xs up) (none_later s up))
 
-  pub highest_before : (l : List ℕ) → Increasing l → (i : ℕ) → Splits l f (suc i) → highest_below f l ≡ At (get_or l i 0)
+  pub highest_before : (l : List ℕ) → Increasing l → (i : ℕ) → Splits l f (suc i) → highest_below f l ≡ Some (get_or l i 0)
   unfolding highest_below
   highest_before [] up i s = absurd (not-suc-le-zero s.front.within)
   highest_before (x ∷ xs) up zero s =
@@ -60,7 +61,7 @@ module _ (f : ℕ) where
   highest_before (x ∷ xs) up (suc i) s =
       let under : x < f = s.front.each 0 (omega arith) in
       let last : max x (get_or xs i 0) ≡ get_or xs i 0 = (let climb = climbs (x ∷ xs) up 0 (suc i) (omega arith) s.front.within in omega arith) in
-      rw (lt-ltb x f under, highest_before xs (later x xs up) i (splits_later s)) (ap At last)
+      rw (lt-ltb x f under, highest_before xs (later x xs up) i (splits_later s)) (ap Some last)
 
   pub none_from : (l : List ℕ) (at : ℕ) → Splits l f at → length l ≤ at → lowest_from f l ≡ None
   unfolding lowest_from
@@ -70,7 +71,7 @@ module _ (f : ℕ) where
       let under : x < f = s.front.each 0 (omega arith) in
       rw (lt-leb f x under) (none_from xs at (splits_later s) (le_of_suc-le-suc h))
 
-  pub lowest_at : (l : List ℕ) → Increasing l → (at : ℕ) → Splits l f at → at < length l → lowest_from f l ≡ At (get_or l at 0)
+  pub lowest_at : (l : List ℕ) → Increasing l → (at : ℕ) → Splits l f at → at < length l → lowest_from f l ≡ Some (get_or l at 0)
   unfolding lowest_from
   lowest_at [] up at s h = absurd (not-suc-le-zero h)
   lowest_at (x ∷ xs) up (suc at) s h =
@@ -79,7 +80,13 @@ module _ (f : ℕ) where
   lowest_at (x ∷ []) up zero s h = rw (le-leb f x (s.rest h))
   lowest_at (x ∷ y ∷ ys) up zero s h =
       let first : min x y ≡ x = (let next = up 0 (omega arith) in omega arith) in
-      rw (le-leb f x (s.rest h), lowest_at (y ∷ ys) (later x (y ∷ ys) up) 0 (none_later s up) (omega arith)) (ap At first)
+      rw (le-leb f x (s.rest h), lowest_at (y ∷ ys) (later x (y ∷ ys) up) 0 (none_later s up) (omega arith)) (ap Some first)
+
+  -- the frame there, or what stands in for it
+  pub lowest_or : (l : List ℕ) → Increasing l → (at : ℕ) → Splits l f at → (other : ℕ) → unwrap_or (lowest_from f l) other ≡ get_or l at other
+  lowest_or l up at s other =
+      by_order at (length l) (λ within. rw (lowest_at l up at s within) (get_or_default l at 0 other within))
+      (λ past. rw (none_from l at s past) (sym (get_or-eq_default l other past)))
 
 -- ---- a list at its own frames
 

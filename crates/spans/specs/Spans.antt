@@ -1,22 +1,19 @@
 -- Unit spans, `tbu_spans` (document 01, "Spans, marks and order"). The two lists may stand in any order.
-use Rattle.std.specs.Prelude.{ℕ, ◌+◌, ◌-◌, ◌*◌, ◌/◌, min, max, ◌||◌, cond, List, [], ◌∷◌, ◌++◌, map, ◌≡◌, ltb, length, drop}
+use Rattle.std.specs.Prelude.{ℕ, ◌+◌, ◌-◌, ◌*◌, ◌/◌, min, max, ◌||◌, cond, List, [], ◌∷◌, ◌++◌, map, ◌≡◌, ltb, length, drop, Option, Some, None, unwrap_or, Result}
 use Rattle.limits.specs.Common.{last_frame}
+use Rattle.limits.specs.declared.refusal.Refusal.{Refusal}
 use Rattle.laws.specs.Rules.{rule}
-use Rattle.frames.specs.Outcome.{Outcome, accepted, refused, checked, any_above, most_frames}
-use Rattle.frames.specs.Frames.{or_else, highest_below, lowest_from, ascending}
-use Rattle.frames.specs.declared.list.Nearest.{Nearest}
-use Rattle.frames.specs.declared.list.Nearest.TheVariants.{None, At}
+use Rattle.frames.specs.Outcome.{Outcome, accepted, refused, outcome, checked, any_above, most_frames}
+use Rattle.frames.specs.Frames.{highest_below, lowest_from, ascending}
 use Rattle.frames.specs.declared.span.Span.{Span}
-use Rattle.spans.specs.declared.spans.SpansAnswer.{SpansAnswer}
-use Rattle.spans.specs.declared.spans.SpansAnswer.TheVariants.{Spans, Size, Track, Desk}
 
 -- "start is the highest boundary below the nucleus, else min(low edge, nucleus)"
 abbrev pub uncut_start : List ℕ → ℕ → ℕ → ℕ
-uncut_start bounds lo f = or_else (highest_below f bounds) (min lo f)
+uncut_start bounds lo f = unwrap_or (highest_below f bounds) (min lo f)
 
 -- "end is the lowest above, else max(high edge, nucleus + 1)"
 abbrev pub uncut_end : List ℕ → ℕ → ℕ → ℕ
-uncut_end bounds hi f = or_else (lowest_from (f + 1) bounds) (max hi (f + 1))
+uncut_end bounds hi f = unwrap_or (lowest_from (f + 1) bounds) (max hi (f + 1))
 
 -- "left + ceiling((right − left) / 2)"
 abbrev pub cut : ℕ → ℕ → ℕ
@@ -24,14 +21,14 @@ cut left right = left + (right - left + 1) / 2
 
 -- "Where neighbours overlap both edges become" the cut: the start of f's span beside its left neighbour, and its end beside
 -- its right neighbour
-abbrev pub start_beside : List ℕ → ℕ → ℕ → Nearest → ℕ → ℕ
+abbrev pub start_beside : List ℕ → ℕ → ℕ → Option ℕ → ℕ → ℕ
 start_beside bounds lo hi None f = uncut_start bounds lo f
-start_beside bounds lo hi (At left) f =
+start_beside bounds lo hi (Some left) f =
     cond (ltb (uncut_start bounds lo f) (uncut_end bounds hi left)) (cut left f) (uncut_start bounds lo f)
 
-abbrev pub end_beside : List ℕ → ℕ → ℕ → ℕ → Nearest → ℕ
+abbrev pub end_beside : List ℕ → ℕ → ℕ → ℕ → Option ℕ → ℕ
 end_beside bounds lo hi f None = uncut_end bounds hi f
-end_beside bounds lo hi f (At right) =
+end_beside bounds lo hi f (Some right) =
     cond (ltb (uncut_start bounds lo right) (uncut_end bounds hi f)) (cut f right) (uncut_end bounds hi f)
 
 -- the span of one frame among its stage's frames and boundaries
@@ -50,13 +47,6 @@ spans_of nuclei bounds lo hi = map (span_of nuclei bounds lo hi) (ascending nucl
 unfoldable pub words_of : List Span → List ℕ
 words_of [] = []
 words_of (s ∷ ss) = s.start ∷ s.end ∷ words_of ss
-
--- each answer's number and value
-abbrev pub outcome : SpansAnswer → Outcome ℕ
-outcome (Spans n) = accepted n
-outcome Size = refused 3
-outcome Track = refused 5
-outcome Desk = refused 11
 
 -- "each list at most 64 frames (3), no frame or edge above 4,095 (5) [..]; the count of spans is returned, and an output with
 -- fewer words than that needs is 11"
@@ -79,6 +69,6 @@ written (accepted n) words out = overwritten words out
 written (refused n) words out = out
 
 -- What `tbu_spans` promises of its answer and of the output.
-pub record Answers (nuclei bounds : List ℕ) (lo hi : ℕ) (before : List ℕ) (answer : SpansAnswer) (after : List ℕ) : Type 0 where
+pub record Answers (nuclei bounds : List ℕ) (lo hi : ℕ) (before : List ℕ) (answer : Result ℕ Refusal) (after : List ℕ) : Type 0 where
   pub answered : outcome answer ≡ tbu_spans_of nuclei bounds lo hi (length before)
   pub output : after ≡ written (outcome answer) (words_of (spans_of nuclei bounds lo hi)) before

@@ -4,64 +4,47 @@ ghost use Rattle.std.specs.Prelude.{◌≡◌};
 ghost use Rattle.spans.specs.Spans.{spans_of, words_of, overwritten, Answers};
 ghost use Rattle.spans.specs.Inner.Room.{Writable};
 
+use crate::bounds::Bounds;
 use crate::edges::span_of;
 use frames::list;
-use frames::list::Nearest;
 use frames::sizes::MOST_FRAMES;
 use limits::common::LAST_FRAME;
-
-#[derive(Clone, Copy)]
-pub enum SpansAnswer {
-    Spans(usize),
-    Size,
-    Track,
-    Desk,
-}
+use limits::refusal::Refusal;
 
 // Writes the spans from the output's first cell on.
-fn write_spans(nuclei: &[u32], bounds: &[u32], lo_edge: u32, hi_edge: u32, out: &mut [u32])
+fn write_spans(nuclei: &[u32], bounds: &Bounds, out: &mut [u32])
     requires { Writable nuclei.now out.old }
-    ensures { out.new ≡ overwritten (words_of (spans_of nuclei.now bounds.now lo_edge hi_edge)) out.old }
+    ensures { out.new ≡ overwritten (words_of (spans_of nuclei.now bounds.now.boundaries.now bounds.now.lo_edge bounds.now.hi_edge)) out.old }
 {
-    let mut count: usize = 0;
+    let mut at = 0;
     let mut from = 0;
-    loop {
-        let Nearest::At(f) = list::lowest_from(nuclei, from) else {
-            return;
-        };
-        let span = span_of(nuclei, bounds, lo_edge, hi_edge, f);
-        let at = 2 * count;
+    while let Some(f) = list::lowest_from(nuclei, from) {
+        let span = span_of(nuclei, bounds, f);
         out[at] = span.start;
         out[at + 1] = span.end;
-        count += 1;
+        at += 2;
         from = f + 1;
     }
 }
 
 // The span of each distinct nucleus, ascending, as two words each; the answer is how many there are.
-pub fn tbu_spans(
-    nuclei: &[u32],
-    bounds: &[u32],
-    lo_edge: u32,
-    hi_edge: u32,
-    out: &mut [u32],
-) -> SpansAnswer
-    ensures { Answers nuclei.now bounds.now lo_edge hi_edge out.old result out.new }
+pub fn tbu_spans(nuclei: &[u32], bounds: &Bounds, out: &mut [u32]) -> Result<usize, Refusal>
+    ensures { Answers nuclei.now bounds.now.boundaries.now bounds.now.lo_edge bounds.now.hi_edge out.old result out.new }
 {
-    if (nuclei.len() > MOST_FRAMES) | (bounds.len() > MOST_FRAMES) {
-        return SpansAnswer::Size;
+    if (nuclei.len() > MOST_FRAMES) | (bounds.boundaries.len() > MOST_FRAMES) {
+        return Err(Refusal::Size);
     }
     if list::any_above(nuclei, LAST_FRAME)
-        | list::any_above(bounds, LAST_FRAME)
-        | (lo_edge > LAST_FRAME)
-        | (hi_edge > LAST_FRAME)
+        | list::any_above(bounds.boundaries, LAST_FRAME)
+        | (bounds.lo_edge > LAST_FRAME)
+        | (bounds.hi_edge > LAST_FRAME)
     {
-        return SpansAnswer::Track;
+        return Err(Refusal::Track);
     }
     let count = list::distinct(nuclei);
     if out.len() < 2 * count {
-        return SpansAnswer::Desk;
+        return Err(Refusal::Desk);
     }
-    write_spans(nuclei, bounds, lo_edge, hi_edge, out);
-    SpansAnswer::Spans(count)
+    write_spans(nuclei, bounds, out);
+    Ok(count)
 }

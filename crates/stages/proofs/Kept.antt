@@ -1,14 +1,14 @@
 -- Kept anchors, one listed frame at a time, and the arrays that hold them.
 use Prim.Native.Nat.{ℕ, suc, ◌+◌, ◌<◌}
 use mathlib.Core.Path.{◌≡◌, refl, sym, ap, ap₂, ◌∙◌}
-use mathlib.Core.Bool.{Bool, true, false, not, cond}
+use mathlib.Core.Bool.{Bool, true, false, cond, ◌||◌}
 use mathlib.Core.List.{List, [], ◌∷◌, ◌++◌, map, append-nil}
 use native.Mathlib.Omega.{arith}
 use native.Mathlib.Numerals.{add-one}
 use native.Mathlib.Nat.{add-zero, add-suc, suc-add}
-use lib.Dec.{eqb, eqb-suc-zero}
 use lib.ListN.{length, get_or, take, set, replicate, length-append, length-map}
 use lib.Seq.{take-suc, length-take-le}
+use Rattle.std.specs.List.{list_any}
 use Rattle.laws.proofs.Listed.{padded_none, padded_more}
 use Rattle.laws.specs.Inner.Tables.{padded}
 use Rattle.paths.specs.Frames.{within_mask}
@@ -96,6 +96,13 @@ module _ (mask : List ℕ) (first : ℕ) (listed : List ℕ) (i : ℕ) (h : i < 
   pub drops_it : within_mask mask (get_or listed i 0) ≡ false → Keeps (kept_in mask first (take (i + 1) listed)) count frames rows
   drops_it e = rw (one_more mask first listed i h, e, append-nil) before
 
-pub counted_some : (anchors : List Anchor) (count : ℕ) → count ≡ length anchors → not (eqb count 0) ≡ non_empty anchors
-counted_some [] count e = ap (λ (n : ℕ). not (eqb n 0)) e
-counted_some (anchor ∷ anchors) count e = ap (λ (n : ℕ). not (eqb n 0)) e ∙ ap not (eqb-suc-zero (length anchors))
+-- Some anchor is kept exactly where some listed frame is within the mask.
+pub some_kept : (mask : List ℕ) (row : ℕ) (frames : List ℕ) → list_any (within_mask mask) frames ≡ non_empty (kept_in mask row frames)
+unfolding kept_in select numbered
+some_kept mask row [] = refl
+some_kept mask row (frame ∷ frames) = go (within_mask mask frame) _ (some_kept mask (suc row) frames)
+  where
+    go : (passes : Bool) {some : Bool} (rest : List Anchor) → some ≡ non_empty rest
+        → (passes || some) ≡ non_empty (cond passes (record { frame = frame; row = row } ∷ rest) rest)
+    go true rest e = refl
+    go false rest e = e

@@ -1,5 +1,5 @@
 -- The last kept anchor before a boundary stands one before the boundary's place.
-use Prim.Native.Nat.{ℕ, zero, suc, ◌-◌, ◌≤◌, ◌<◌}
+use Prim.Native.Nat.{ℕ, zero, suc, ◌≤◌, ◌<◌}
 use mathlib.Core.Path.{◌≡◌, refl, sym, ap, ◌∙◌}
 use mathlib.Core.List.{List, [], ◌∷◌, map}
 use native.Mathlib.Omega.{arith}
@@ -12,20 +12,9 @@ use Rattle.paths.specs.Anchors.{Anchor, select}
 use Rattle.paths.specs.Inner.Ranges.{before, last_of}
 use Rattle.stages.specs.Kept.{frames_of}
 use Rattle.stages.specs.Places.{Climbs, count_below}
-use Rattle.stages.specs.Ranges.{entry_of}
 use Rattle.stages.specs.Search.{entry_before}
 use Rattle.stages.proofs.Places.{none_below}
 use Rattle.stages.proofs.Held.{figure_from}
-
--- ---- the entry before a place
-
-pub before_first : (list : List ℕ) (place : ℕ) → place ≡ 0 → 0 ≡ entry_before list place
-before_first list zero e = refl
-before_first list (suc place) e = omega arith
-
-pub before_other : (list : List ℕ) (place : ℕ) → (place ≡ 0 → ⊥) → entry_of list (place - 1) ≡ entry_before list place
-before_other list zero ne = absurd (ne refl)
-before_other list (suc place) ne = let e : suc place - 1 ≡ place = omega arith in ap (entry_of list) e
 
 -- ---- the last of the anchors before a boundary
 

@@ -7,6 +7,7 @@ pub mod Held
 pub mod Stage
 pub mod OwnTables
 pub mod Parts
+mod Laid
 pub mod Last
 pub mod Origins
 pub mod Counted

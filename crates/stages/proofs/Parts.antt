@@ -4,13 +4,13 @@ use mathlib.Core.Path.{◌≡◌, refl, sym, ap, ap₂, ◌∙◌}
 use mathlib.Core.List.{List, [], ◌∷◌, ◌++◌, append_assoc, append-nil}
 use native.Mathlib.Omega.{arith}
 use lib.ListN.{length, get_or, length-drop, take, drop, replicate, length-append, length-replicate, take-append-drop, drop_of_length-le}
-use lib.Seq.{ext_get_or, length-take-le, take_all, get_or-drop, take_at, drop_at, take-take, take-add, drop-drop, take-append-le, drop-append-le, drop-append-add}
+use lib.Seq.{ext_get_or, length-take-le, take_at, drop_at, take-take, take-add, drop-drop, take-append-le, take-append-add, drop-append-le, drop-append-add}
 use borrow.Rule.Slice.PartMut.{post_of, put_mid, take_put, same_len_mid}
 use Rattle.laws.proofs.Numbers.{by_order}
 use Rattle.laws.proofs.Listed.{length_listed, get_d_listed, written_table, length_table}
 use Rattle.laws.proofs.Lists.{drop_replicate}
 use Rattle.laws.specs.Listed.{listed}
-use Rattle.laws.specs.Inner.Tables.{table_of, written}
+use Rattle.laws.specs.Inner.Tables.{padded, table_of, written}
 use Rattle.limits.specs.Capacity.{most_boundaries}
 use Rattle.stages.specs.Lists.{table_at}
 
@@ -52,14 +52,6 @@ module _ {A : Type 0} where
           ∙ drop_at (take a l ++ p) (post_of a k l) (a + k) (length-append (take a l) p ∙ ap₂ ◌+◌ (length-take-le a l (omega arith)) e)
           ∙ drop-drop k a l
 
-  -- a part that goes to the list's end
-  pub rest_length : (a : ℕ) (l : List A) → length (take (length l - a) (drop a l)) ≡ length l - a
-  rest_length a l = length-take-le (length l - a) (drop a l) (omega (arith, length-drop a l))
-
-  pub rest_at : (a : ℕ) (l : List A) (i : ℕ) (d : A) → get_or (take (length l - a) (drop a l)) i d ≡ get_or l (a + i) d
-  rest_at a l i d =
-      ap (λ (rest : List A). get_or rest i d) (take_all (length l - a) (drop a l) (omega (arith, length-drop a l))) ∙ get_or-drop a l i d
-
   -- a part of the front of a list
   pub part_front : (c m : ℕ) (p q : List A) → c + m ≤ length p → take m (drop c (p ++ q)) ≡ take m (drop c p)
   part_front c m p q h = ap (take m) (drop-append-le c p q (omega arith)) ∙ take-append-le m (drop c p) q (omega (arith, length-drop c p))
@@ -93,15 +85,6 @@ module _ {A : Type 0} (a k : ℕ) (l p q : List A) (long : length l ≡ a + k) (
       ap (λ (x : List A). take m (drop (a + c) x)) both_is ∙ ap (λ (n : ℕ). take m (drop (n + c) (p ++ q))) (sym first)
       ∙ ap (take m) (drop-append-add p q c)
 
--- A list of which two parts at its end were lent and put back.
-pub last_two : {A : Type 0} (a k m : ℕ) (l p q : List A) → length l ≡ a + k + m → length p ≡ k → length q ≡ m
-    → put_mid (a + k) m (put_mid a k l p) q ≡ take a l ++ p ++ q
-last_two {A} a k m l p q long first second =
-    let front : length (take a l ++ p) ≡ a + k = length-append (take a l) p ∙ ap₂ ◌+◌ (length-take-le a l (omega arith)) first in
-    ap (λ (x : List A). put_mid (a + k) m x q)
-    (sym (append_assoc (take a l) p (post_of a k l)) ∙ ap (λ (rest : List A). (take a l ++ p) ++ rest) (drop-drop k a l))
-    ∙ both_is (a + k) m l (take a l ++ p) q long front second
-
 -- A list that holds the spare value only from a place on, while parts before it are laid.
 pub record Fresh {A : Type 0} (spare : A) (size at : ℕ) (l : List A) : Type 0 where
   pub long : length l ≡ size
@@ -124,17 +107,27 @@ module _ {A : Type 0} {spare : A} {size : ℕ} where
     rest = λ c m after h. put_after at k c m l p after (omega (arith, fresh.long)) e ∙ fresh.rest c m (omega arith) h;
   }
 
--- the entries of a list, written over as long a list
-pub written_whole : (list old : List ℕ) → length old ≡ length list → written (λ j. get_or list j 0) (length list) old ≡ list
-written_whole list old long =
-    let short : length old ≤ length list = omega arith in
-    let none : drop (length list) old ≡ [] = drop_of_length-le old short in
-    ap₂ (λ (xs ys : List ℕ). xs ++ ys) entries none ∙ append-nil list
-  where
-    entries : listed (λ j. get_or list j 0) (length list) ≡ list
-    entries =
-        ext_get_or 0 (listed (λ j. get_or list j 0) (length list)) list (length_listed (λ j. get_or list j 0) (length list))
-        (λ i h. get_d_listed (λ j. get_or list j 0) (length list) i 0 (omega (arith, length_listed (λ j. get_or list j 0) (length list))))
+  -- and what is left further on
+  pub fresh_from : {at : ℕ} {l : List A} (on : ℕ) → Fresh spare size at l → at ≤ on → Fresh spare size on l
+  fresh_from on fresh h = record { long = fresh.long; rest = λ c m after within. fresh.rest c m (omega arith) within }
+
+-- a list by its entries
+listed_entries : (list : List ℕ) → listed (λ j. get_or list j 0) (length list) ≡ list
+listed_entries list =
+    ext_get_or 0 (listed (λ j. get_or list j 0) (length list)) list (length_listed (λ j. get_or list j 0) (length list))
+    (λ i h. get_d_listed (λ j. get_or list j 0) (length list) i 0 (omega (arith, length_listed (λ j. get_or list j 0) (length list))))
+
+-- a list copied over the front of spare entries is a table
+pub copied_table : (list : List ℕ) (size : ℕ) → most_boundaries ≤ size → length list ≤ most_boundaries
+    → table_at 0 (list ++ drop (length list) (replicate size 0)) ≡ table_of (λ j. get_or list j 0) (length list) most_boundaries 0
+unfolding padded
+copied_table list size room short =
+    let n = length list in
+    let rest = most_boundaries - n in
+    let e : most_boundaries ≡ n + rest = omega arith in
+    ap (λ (m : ℕ). take m (list ++ drop n (replicate size 0))) e ∙ take-append-add list (drop n (replicate size 0)) rest
+    ∙ ap (λ (ys : List ℕ). list ++ ys) (ap (take rest) (drop_replicate n size 0) ∙ take_replicate rest (size - n) 0 (omega arith))
+    ∙ ap (λ (xs : List ℕ). padded xs most_boundaries 0) (sym (listed_entries list))
 
 -- A list of m tables of which k are laid, while the others hold the spare value only.
 pub record Laying {A : Type 0} (spare : A) (m : ℕ) (table : ℕ → List A) (k : ℕ) (l : List A) : Type 0 where
@@ -155,7 +148,7 @@ module _ {A : Type 0} {spare : A} {m : ℕ} {table : ℕ → List A} where
       none : (j : ℕ) → j < 0 → ⊥
       none j h = omega arith
 
-  pub laying_long : {k : ℕ} {l : List A} → Laying spare m table k l → k < m → length (table_at (k * most_boundaries) l) ≡ most_boundaries
+  laying_long : {k : ℕ} {l : List A} → Laying spare m table k l → k < m → length (table_at (k * most_boundaries) l) ≡ most_boundaries
   laying_long {k} {l} laying h = ap length (laying.fresh k (omega arith) h) ∙ length-replicate most_boundaries spare
 
   pub laying_next : {k n : ℕ} {l out : List A} (g : ℕ → A) → Laying spare m table k l → k < m → n ≤ most_boundaries

@@ -167,17 +167,17 @@ module _ {mask : List ℕ} {anchors : List Anchor} {frames bounds places : List 
         lows =
             inner lows_in (omega arith) ∙ ranged.lows
             ∙ lows_same (unit_to bounds (λ k. second_ahead absent anchors (get_or bounds k 0))) (goes_to Relaxed anchors bounds) (length bounds)
-            (λ i j _ _. unit_goes p.orderly.rising bounds i j (p.small j))
+            (λ i j _ h. unit_goes p.orderly.rising bounds i j (p.small j h))
 
         middles : table_at middles_at words ≡ table_of (origins_end Strict anchors bounds) (length bounds) most_boundaries 0
         middles =
             inner middles_in (omega arith) ∙ ranged.middles
             ∙ ends_same
             (anchored_to bounds (λ k. first_ahead absent anchors (get_or bounds k 0)) (λ k. second_ahead absent anchors (get_or bounds k 0)))
-            (goes_to Strict anchors bounds) (length bounds) (λ i j _ _. anchored_goes p.orderly.rising bounds i j (p.small j))
+            (goes_to Strict anchors bounds) (length bounds) (λ i j _ h. anchored_goes p.orderly.rising bounds i j (p.small j h))
 
         highs : table_at highs_at words ≡ table_of (origins_end Relaxed anchors bounds) (length bounds) most_boundaries 0
         highs =
             inner highs_in (omega arith) ∙ ranged.highs
             ∙ ends_same (unit_to bounds (λ k. second_ahead absent anchors (get_or bounds k 0))) (goes_to Relaxed anchors bounds) (length bounds)
-            (λ i j _ _. unit_goes p.orderly.rising bounds i j (p.small j))
+            (λ i j _ h. unit_goes p.orderly.rising bounds i j (p.small j h))

@@ -18,7 +18,8 @@ use Rattle.limits.specs.Capacity.{most_boundaries, most_anchors, most_edges, anc
 use Rattle.limits.specs.Common.{absent}
 use Rattle.stages.specs.Edges.{edge, speech_before}
 use Rattle.stages.specs.Kept.{frames_of}
-use Rattle.stages.specs.Places.{Climbs, count_below, place_before}
+use Rattle.stages.specs.declared.anchors.PlacedAnchors.{PlacedAnchors}
+use Rattle.stages.specs.Places.{Climbs, count_below, place_before, AnchorsPlaced}
 use Rattle.stages.specs.Filler.{Ascends, stretch, start_at, no_cost, Priced}
 use Rattle.stages.specs.Parts.{Fit, FitList, cost_of, Fills}
 use Rattle.stages.proofs.Edges.{edge_in, edge_end, edges_climb}
@@ -66,8 +67,20 @@ pub record Placing (mask : List ℕ) (anchors : List Anchor) (frames bounds plac
   pub orderly : Orderly mask anchors
   pub framed : frames ≡ padded (frames_of anchors) anchor_room absent
   pub fit : Fit mask bounds
-  pub small : (j : ℕ) → get_or bounds j 0 ≤ absent
+  pub small : (j : ℕ) → j < length bounds → get_or bounds j 0 ≤ absent
   pub placed : places ≡ table_of (place_before frames bounds) (length bounds + 1) most_edges 0
+
+-- those of listed anchors that are kept and placed
+pub kept_placing : (mask : List ℕ) (row : ℕ) (listed : List ℕ) {bounds : List ℕ} {placed : PlacedAnchors} → Fit mask bounds
+    → FitList most_anchors listed → ((j : ℕ) → j < length bounds → get_or bounds j 0 < 2 ^ 32) → AnchorsPlaced (kept_in mask row listed) bounds placed
+    → Placing mask (kept_in mask row listed) placed.frames bounds placed.places
+kept_placing mask row listed fit few small placed = record {
+  orderly = kept_orderly mask row listed fit.framed few;
+  framed = placed.framed;
+  fit = fit;
+  small = λ j h. omega (arith, small j h);
+  placed = placed.placed;
+}
 
 module _ {mask : List ℕ} {anchors : List Anchor} {frames bounds places : List ℕ} (p : Placing mask anchors frames bounds places) where
   table_place : (j : ℕ) → j ≤ length bounds → get_or places j 0 ≡ place_before frames bounds j
@@ -77,7 +90,7 @@ module _ {mask : List ℕ} {anchors : List Anchor} {frames bounds places : List 
   pub place_at : (j : ℕ) → j < length bounds → get_or places j 0 ≡ count_below (frames_of anchors) (get_or bounds j 0)
   place_at j h =
       table_place j (omega arith) ∙ ap (count_below frames) (edge_in bounds absent j h)
-      ∙ place_is p.orderly p.framed (get_or bounds j 0) (p.small j)
+      ∙ place_is p.orderly p.framed (get_or bounds j 0) (p.small j h)
 
   -- the count before an edge is that of the anchors held from the start up to it
   held_at : (j : ℕ) → j ≤ length bounds → get_or places j 0 ≡ length (held_in anchors 0 (edge bounds (length mask) j))

@@ -1,9 +1,14 @@
 -- How kept anchors stand in arrays.
 use Rattle.std.specs.Prelude.{ℕ, ◌≡◌, List, map, length}
 use Rattle.laws.specs.Inner.Tables.{padded}
-use Rattle.paths.specs.Anchors.{Anchor}
+use Rattle.paths.specs.Anchors.{Anchor, kept_in}
+use Rattle.stages.specs.declared.stage_parts.StageParts.{StageParts}
 use Rattle.limits.specs.Capacity.{anchor_room}
 use Rattle.limits.specs.Common.{absent}
+
+-- the kept anchors of a stage
+abbrev pub kept_of : StageParts → List Anchor
+kept_of stage = kept_in stage.mask.now stage.first_row stage.anchors.now
 
 abbrev pub frames_of : List Anchor → List ℕ
 frames_of anchors = map (λ anchor. anchor.frame) anchors

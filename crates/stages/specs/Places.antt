@@ -3,6 +3,7 @@ use Rattle.std.specs.Prelude.{ℕ, suc, ◌+◌, ◌≤◌, ◌≡◌, cond, Lis
 use Rattle.laws.specs.Inner.Tables.{padded, table_of}
 use Rattle.paths.specs.Anchors.{Anchor}
 use Rattle.limits.specs.Capacity.{most_edges, anchor_room}
+use Rattle.stages.specs.declared.anchors.PlacedAnchors.{PlacedAnchors}
 use Rattle.stages.specs.Kept.{frames_of, rows_of}
 use Rattle.limits.specs.Common.{absent}
 use Rattle.stages.specs.Edges.{edge}
@@ -21,7 +22,7 @@ abbrev pub place_before : List ℕ → List ℕ → ℕ → ℕ
 place_before frames bounds j = count_below frames (edge bounds absent j)
 
 -- the kept anchors in arrays, and the place of each boundary among them
-pub record AnchorsPlaced (anchors : List Anchor) (bounds frames rows places : List ℕ) : Type 0 where
-  pub framed : frames ≡ padded (frames_of anchors) anchor_room absent
-  pub rowed : rows ≡ padded (rows_of anchors) anchor_room 0
-  pub placed : places ≡ table_of (place_before frames bounds) (length bounds + 1) most_edges 0
+pub record AnchorsPlaced (anchors : List Anchor) (bounds : List ℕ) (arrays : PlacedAnchors) : Type 0 where
+  pub framed : arrays.frames ≡ padded (frames_of anchors) anchor_room absent
+  pub rowed : arrays.rows ≡ padded (rows_of anchors) anchor_room 0
+  pub placed : arrays.places ≡ table_of (place_before arrays.frames bounds) (length bounds + 1) most_edges 0

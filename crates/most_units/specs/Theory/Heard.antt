@@ -1,13 +1,12 @@
 -- The most units beside what decoding says of a candidate.
-use Rattle.std.specs.Prelude.{ℕ, ◌<◌}
+use Rattle.std.specs.Prelude.{ℕ, ◌<◌, Option, Some, None, Result, Ok}
+use Rattle.limits.specs.declared.refusal.Refusal.{Refusal}
 use Rattle.phrase.specs.Phrase.{Phrase}
 use Rattle.paths.specs.declared.passes.Pass.{Pass}
 use Rattle.paths.specs.Passes.{of_pass, pass_stage, pass_strictness}
 use Rattle.record.specs.declared.read.Which.{Which}
 use Rattle.record.specs.declared.read.Which.TheVariants.{Nuclei, Count}
 use Rattle.most_units.specs.Most.{paths_of, Most}
-use Rattle.most_units.specs.declared.answer.MostUnits.{MostUnits}
-use Rattle.most_units.specs.declared.answer.MostUnits.TheVariants.{NoPath, Units}
 
 -- the most units, under a cap, of the stage and strictness of a pass
 abbrev pub MostIn : Phrase → Pass → ℕ → ℕ → Type 0
@@ -18,6 +17,6 @@ abbrev pub which_of : Pass → Which
 which_of pass = of_pass Nuclei Count pass
 
 -- the answer leaves no room for k units
-pub data Short (k : ℕ) : MostUnits → Type 0 where
-  nothing_fits : Short k NoPath
-  too_few : {units : ℕ} → units < k → Short k (Units units)
+pub data Short (k : ℕ) : Result (Option ℕ) Refusal → Type 0 where
+  nothing_fits : Short k (Ok None)
+  too_few : {units : ℕ} → units < k → Short k (Ok (Some units))

@@ -1,5 +1,5 @@
 -- What the readers of an accepted record hand over, in terms of the phrase that it means.
-use Rattle.std.specs.Prelude.{ℕ, ◌+◌, ◌*◌, ◌≤◌, ◌<◌, not, List, [], ◌++◌, ◌≡◌, T, length, get_or, drop, Float}
+use Rattle.std.specs.Prelude.{ℕ, ◌+◌, ◌*◌, ◌≤◌, ◌<◌, not, List, [], ◌++◌, ◌≡◌, T, length, get_or, drop, Float, Option, Some, None}
 use Rattle.std.specs.Float.Ieee.{is_nan}
 use Rattle.phrase.specs.Phrase.{Phrase, Candidate, Speech, silent, spoken}
 use Rattle.record.specs.Conditions.{f32_at, first_table, second_table}
@@ -8,7 +8,6 @@ use Rattle.record.specs.declared.layout.Layout.{Layout}
 use Rattle.record.specs.declared.read.Which.{Which}
 use Rattle.record.specs.declared.read.Which.TheVariants.{Nuclei, Count}
 use Rattle.record.specs.declared.read.Edges.{Edges}
-use Rattle.record.specs.declared.read.Edges.TheVariants.{Silent, Spoken}
 
 -- where the two lists of a stage stand, and its duration table
 abbrev pub anchor_section : Which → Layout → Section
@@ -28,9 +27,10 @@ abbrev pub HasTable : Which → Phrase → Type 0
 HasTable Nuclei phrase = Unit {0}
 HasTable Count phrase = 0 < length phrase.added.anchors
 
-abbrev pub edges_of : Edges → Speech
-edges_of Silent = silent
-edges_of (Spoken start end) = spoken start end
+-- the speech edges, where a record has some
+abbrev pub edges_of : Option Edges → Speech
+edges_of None = silent
+edges_of (Some edges) = spoken edges.start edges.end
 
 -- candidate i, and one without units past the last
 abbrev pub candidate_of : Phrase → ℕ → Candidate

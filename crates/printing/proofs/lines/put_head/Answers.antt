@@ -1,4 +1,4 @@
--- `put_head`: its parts, one after the other.
+-- Its parts, one after the other.
 use Rattle.text.proofs.Putting.{then}
 use Rattle.printing.specs.Listing.{head_line}
 use Rattle.printing.specs.Inner.InWords.{name_text}
@@ -7,5 +7,5 @@ use Rattle.printing.proofs.lines.put_head.Goals as goal
 pub returns : goal.returns
 unfolding head_line name_text
 returns c =
-    let found = then (then c.put_name-after_name.ensures c.put-to_pass.ensures) c.put_pass-after_pass.ensures in
-    then (then (then found c.put-to_units.ensures) c.put_decimal-after_units.ensures) c.put.ensures
+    let found = then (then c.put_name.ensures c.put.ensures) c.put_pass.ensures in
+    then (then (then found c.put-2.ensures) c.put_decimal.ensures) c.put-3.ensures

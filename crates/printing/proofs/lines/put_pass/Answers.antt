@@ -37,4 +37,4 @@ unfolding pass_word
 returns-in-5 c = renamed (sym (ap pass_word c.in-5.is)) (omega arith) c.put-in-5.ensures
 
 pub returns-in_default : goal.returns-in_default
-returns-in_default c = renamed (sym (no_word c.args.pass (omega arith))) (omega arith) (nothing c.args.out.now c.args.at)
+returns-in_default c = renamed (sym (no_word c.args.pass (omega arith))) (omega arith) (nothing c.args.page.now)

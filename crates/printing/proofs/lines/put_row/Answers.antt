@@ -23,4 +23,4 @@ pub returns-else-row-eq-ABSENT : goal.returns-else-row-eq-ABSENT
 unfolding row_text
 returns-else-row-eq-ABSENT c =
     let written = c.put_decimal.ensures in
-    renamed (rows_same c.args.row (sym (ne_eqb c.args.row absent c.if-row-eq-ABSENT.false))) written.short written
+    renamed (rows_same c.args.row (sym (ne_eqb c.args.row absent c.if-row-eq-ABSENT.false))) written.puts.short written

@@ -1,2 +1,0 @@
--- A law that several functions cite.
-mod Counting

@@ -1,0 +1,2 @@
+-- Steps of the proofs of these tests.
+mod Ranges
