@@ -12,6 +12,7 @@ ghost use Rattle.record.specs.Refusals.{trailer_rules, content_rules, candidate_
 ghost use Rattle.record.specs.Inner.Checks.{answer, checked_of, checked_with};
 
 use candidates::check_candidates;
+use fields::CandidateList;
 use figures::bad_cost;
 use limits::edition::{Limits, limits_of};
 use limits::refusal::Refusal;
@@ -60,7 +61,8 @@ fn check_contents(bytes: &[u8], at: Layout) -> Result<(), Refusal>
     if at.candidates.count == 0 {
         return Err(Refusal::Bare);
     }
-    check_candidates(bytes, limits_of(at.edition), at)
+    let limits = limits_of(at.edition);
+    check_candidates(&CandidateList { bytes, limits, at })
 }
 
 // Refusals 1 to 10, which are the record's own.

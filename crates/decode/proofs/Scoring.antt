@@ -34,7 +34,7 @@ use Rattle.closed.specs.Answered.{Says, missed_word}
 use Rattle.closed.specs.Asked.{columns_of}
 use Rattle.record.specs.Layout.{layout_of, limits_of}
 use Rattle.record.specs.Meaning.{phrase_of, stage_of}
-use Rattle.record.specs.Inner.Accepted.{CandidateFit}
+use Rattle.record.specs.Inner.Accepted.{Laid, CandidateFit}
 use Rattle.record.specs.Inner.Reading.{candidate_of}
 use Rattle.record.specs.declared.layout.Layout.{Layout}
 use Rattle.record.specs.declared.read.Which.{Which}
@@ -65,8 +65,8 @@ map_replicate f (suc n) x = ap (λ xs. f x ∷ xs) (map_replicate f n x)
 
 -- ---- one candidate of those that a decoder has
 
-module _ {bytes : List ℕ} {at : Layout} {plan : Plan} {nuclei : Tables} {added : Option Tables}
-    (inputs : DecodeInputs bytes at plan nuclei added) {candidate : ℕ} (below : candidate < length (phrase_of bytes).candidates) where
+module _ {bytes : List ℕ} {at : Layout} (laid : Laid bytes at) {plan : Plan} {nuclei : Tables} {added : Option Tables}
+    (inputs : DecodeInputs bytes plan nuclei added) {candidate : ℕ} (below : candidate < length (phrase_of bytes).candidates) where
   abbrev phrase : Phrase
   phrase = phrase_of bytes
 
@@ -77,21 +77,21 @@ module _ {bytes : List ℕ} {at : Layout} {plan : Plan} {nuclei : Tables} {added
   columns = columns_of bytes candidate
 
   fits : CandidateFit (limits_of bytes).units at.scores.count chosen_one
-  fits = (fit inputs.laid).candidates candidate _ below
+  fits = (fit laid).candidates candidate _ below
 
   pub few_units_law : length columns ≤ most_units
-  few_units_law = candidate-units inputs.laid below
+  few_units_law = candidate-units laid below
 
   laid_fits : CandidateFit (limits_of bytes).units (layout_of bytes).scores.count chosen_one
-  laid_fits = subst (λ (x : Layout). CandidateFit (limits_of bytes).units x.scores.count chosen_one) inputs.laid.layout fits
+  laid_fits = subst (λ (x : Layout). CandidateFit (limits_of bytes).units x.scores.count chosen_one) laid.layout fits
 
   demanded : D.Demanded phrase columns (chosen phrase columns)
-  demanded = answered bytes inputs.laid.accepted laid_fits
+  demanded = answered bytes laid.accepted laid_fits
 
   -- the total of the entry is no NaN
   total_number_law : (a : Answer) → chosen phrase columns ≡ a → T (not (is_nan (total_of phrase (length columns) a)))
   total_number_law a is =
-      finite_number _ (total_real bytes inputs.laid.accepted laid_fits (subst (D.Demanded phrase columns) is demanded)).is_finite
+      finite_number _ (total_real bytes laid.accepted laid_fits (subst (D.Demanded phrase columns) is demanded)).is_finite
 
   -- an entry, from its parts
   scored_as : (a : Answer) → chosen phrase columns ≡ a → (head : EntryHead) (units : List PlacedUnit) → head.id ≡ chosen_one.id
@@ -145,9 +145,9 @@ module _ {bytes : List ℕ} {at : Layout} {plan : Plan} {nuclei : Tables} {added
   found_in which strictness tables prepared admitted = record {
     figures = tables.figures.now;
     prepared = prepared;
-    few_boundaries = few_boundaries_law inputs.laid which;
-    up = (anchors_fit inputs.laid which).ascending;
-    bounds_up = (boundaries_fit inputs.laid which).ascending;
+    few_boundaries = few_boundaries_law laid which;
+    up = (anchors_fit laid which).ascending;
+    bounds_up = (boundaries_fit laid which).ascending;
     ok = each_ok phrase (stage_of which phrase) strictness columns (units_in_order admitted);
   }
 

@@ -1,5 +1,7 @@
--- What the code's contracts speak of beside what decoding promises: the lookups of a phrase, and units and entries as arrays hold them.
+-- What the code's contracts speak of beside what decoding promises: the lookups of a phrase, what its candidates are decoded with, and units and
+-- entries as the code holds them.
 pub mod Places
 pub mod Calls
 pub mod Plans
+pub mod Decoders
 pub mod Scored

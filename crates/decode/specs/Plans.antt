@@ -3,8 +3,6 @@ use Rattle.std.specs.Prelude.{ℕ, true, false, List, ◌≡◌, Float, Option, 
 use Rattle.std.specs.Option.{ForSome}
 use Rattle.phrase.specs.Phrase.{Phrase, Stage}
 use Rattle.paths.specs.Passes.{non_empty}
-use Rattle.record.specs.declared.layout.Layout.{Layout}
-use Rattle.record.specs.Inner.Accepted.{Laid}
 use Rattle.record.specs.Meaning.{phrase_of}
 use Rattle.rows.specs.declared.tables.Tables.{Tables}
 use Rattle.closed.specs.Answered.{RunsOf}
@@ -31,8 +29,7 @@ PreparedTables phrase stage tables =
 
 -- What each candidate of an accepted record is decoded with: what was looked up, and the tables of its stages. "The added stage [..] exists
 -- exactly when A > 0", and its tables too.
-pub record DecodeInputs (bytes : List ℕ) (at : Layout) (plan : Plan) (nuclei : Tables) (added : Option Tables) : Type 0 where
-  pub laid : Laid bytes at
+pub record DecodeInputs (bytes : List ℕ) (plan : Plan) (nuclei : Tables) (added : Option Tables) : Type 0 where
   pub planned : PlanOf (phrase_of bytes) plan
   pub nuclei_prepared : PreparedTables (phrase_of bytes) (phrase_of bytes).nuclei nuclei
   pub added_there : is_some added ≡ non_empty (phrase_of bytes).added.anchors

@@ -2,7 +2,6 @@
 
 ghost use Rattle.std.specs.Prelude.{length};
 ghost use Rattle.decoding.specs.Contract.{Decodes};
-ghost use Rattle.record.specs.Inner.Accepted.{Laid};
 ghost use Rattle.decode.specs.Calls.{Enough, Leaves};
 
 use crate::decoder::Decoder;
@@ -12,29 +11,31 @@ use checks::check_areas;
 use limits::edition::limits_of;
 use limits::refusal::Refusal;
 use prepare::stage::lay_stage;
-use record::layout::Layout;
+use reading::accepted::AcceptedRecord;
 use record::read::Which;
 use rows::clear::clear;
 use rows::tables::Tables;
 use stages::lists::{FIGURES, WORDS};
 
 // Decodes an accepted record into buffers that are long enough.
-fn decode_accepted(record: &[u8], at: Layout, best: &mut [f64], back: &mut [u32], out: &mut [u32])
-    requires { Laid «record».now at × Enough «record».now (length best.old) (length back.old) (length out.old) }
-    ensures { Leaves «record».now best.old back.old out.old best.new
+fn decode_accepted(accepted: AcceptedRecord, best: &mut [f64], back: &mut [u32], out: &mut [u32])
+    requires { Enough accepted.bytes.now (length best.old) (length back.old) (length out.old) }
+    ensures { Leaves accepted.entry.bytes.now best.old back.old out.old best.new
         back.new out.new }
 {
-    let limits = limits_of(at.edition);
-    clear(best, back, limits.work_cells());
-    let plan = plan_of(record, at);
+    // The lists stand first: behind the calls they are zeroed twice, which takes 4,600 instructions of 65,000 on a typical record.
     let mut words = [0u32; WORDS];
     let mut figures = [0.0f64; FIGURES];
     let mut added_words = [0u32; WORDS];
     let mut added_figures = [0.0f64; FIGURES];
+    let at = accepted.at;
+    let limits = limits_of(at.edition);
+    clear(best, back, limits.work_cells());
+    let plan = plan_of(&accepted);
     let lo = plan.lo_edge;
     let hi = plan.hi_edge;
-    lay_stage(record, at, Which::Nuclei, lo, hi, &mut words, &mut figures);
-    lay_added(record, at, lo, hi, &mut added_words, &mut added_figures);
+    lay_stage(&accepted, Which::Nuclei, lo, hi, &mut words, &mut figures);
+    lay_added(&accepted, lo, hi, &mut added_words, &mut added_figures);
     let nuclei = Tables {
         words: &words,
         figures: &figures,
@@ -44,7 +45,7 @@ fn decode_accepted(record: &[u8], at: Layout, best: &mut [f64], back: &mut [u32]
         figures: &added_figures,
     };
     let added = (at.added_anchors.count != 0).then_some(laid);
-    let decoder = Decoder::new(record, at, plan, nuclei, added);
+    let decoder = Decoder::new(accepted, plan, nuclei, added);
     decoder.put_candidates(best, back, out);
 }
 
@@ -59,6 +60,6 @@ pub fn decode(
         back.new out.new }
 {
     let at = check_areas(record, best.len(), back.len(), out.len())?;
-    decode_accepted(record, at, best, back, out);
+    decode_accepted(AcceptedRecord::new(record, at), best, back, out);
     Ok(at.candidates.count as u32)
 }

@@ -2,29 +2,27 @@
 
 ghost use Rattle.std.specs.Prelude.{◌≡◌, length};
 ghost use Rattle.record.specs.Meaning.{phrase_of};
-ghost use Rattle.record.specs.Inner.Accepted.{Laid};
 ghost use Rattle.stages.specs.Lists.{figures_long, words_long};
 ghost use Rattle.decode.specs.Plans.{AddedLaid};
 
 use prepare::stage::lay_stage;
-use record::layout::Layout;
+use reading::accepted::AcceptedRecord;
 use record::read::Which;
 
 // "The added stage [..] exists exactly when A > 0"; else its lists stay as they came.
 pub fn lay_added(
-    bytes: &[u8],
-    at: Layout,
+    accepted: &AcceptedRecord,
     lo_edge: u32,
     hi_edge: u32,
     words: &mut [u32],
     figures: &mut [f64],
 )
-    requires laid { Laid bytes.now at }
-    requires words_len { (length words.old ≡ words_long) × (length figures.old ≡ figures_long) }
-    ensures { AddedLaid (phrase_of bytes.now) lo_edge hi_edge words.old figures.old
+    requires { (length words.old ≡ words_long) × (length figures.old ≡ figures_long) }
+    ensures { AddedLaid (phrase_of accepted.now.bytes.now) lo_edge hi_edge words.old figures.old
         words.new figures.new }
 {
+    let at = accepted.at;
     if at.added_anchors.count != 0 {
-        lay_stage(bytes, at, Which::Count, lo_edge, hi_edge, words, figures);
+        lay_stage(accepted, Which::Count, lo_edge, hi_edge, words, figures);
     }
 }

@@ -3,15 +3,13 @@
 ghost use Rattle.std.specs.Prelude.{◌≡◌};
 ghost use Rattle.closed.specs.Answered.{RunsOf};
 ghost use Rattle.record.specs.Meaning.{phrase_of};
-ghost use Rattle.record.specs.Inner.Accepted.{Laid};
 ghost use Rattle.record.specs.Inner.Reading.{edges_of};
 ghost use Rattle.decode.specs.Plans.{PlanOf};
 
 use closed::search::Runs;
 use limits::capacity::MOST_ANCHORS;
 use phrase::costs::Costs;
-use reading::read;
-use record::layout::Layout;
+use reading::accepted::AcceptedRecord;
 use record::read::{Edges, Which};
 use stages::anchors::has_nucleus;
 
@@ -23,27 +21,25 @@ pub struct Plan {
     pub hi_edge: u32,
 }
 
-fn runs_of(bytes: &[u8], at: Layout, edges: Option<Edges>) -> Runs
-    requires laid { Laid bytes.now at }
-    requires edges_value { edges_of edges ≡ (phrase_of bytes.now).speech }
-    ensures { RunsOf (phrase_of bytes.now) result }
+fn runs_of(accepted: &AcceptedRecord, edges: Option<Edges>) -> Runs
+    requires { edges_of edges ≡ (phrase_of accepted.now.bytes.now).speech }
+    ensures { RunsOf (phrase_of accepted.now.bytes.now) result }
 {
     let mut nuclei = [0u32; MOST_ANCHORS];
-    let count = read::anchors(bytes, at, Which::Nuclei, &mut nuclei);
-    let voiced = has_nucleus(read::mask(bytes, at), &nuclei[..count]);
+    let count = accepted.anchors(Which::Nuclei, &mut nuclei);
+    let voiced = has_nucleus(accepted.mask(), &nuclei[..count]);
     Runs {
         spoken: edges.is_some(),
         voiced,
     }
 }
 
-pub fn plan_of(bytes: &[u8], at: Layout) -> Plan
-    requires { Laid bytes.now at }
-    ensures { PlanOf (phrase_of bytes.now) result }
+pub fn plan_of(accepted: &AcceptedRecord) -> Plan
+    ensures { PlanOf (phrase_of accepted.now.bytes.now) result }
 {
-    let edges = read::speech(bytes, at);
-    let costs = read::costs(bytes, at);
-    let runs = runs_of(bytes, at, edges);
+    let edges = accepted.speech();
+    let costs = accepted.costs();
+    let runs = runs_of(accepted, edges);
     Plan {
         costs,
         runs,

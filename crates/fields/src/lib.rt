@@ -52,28 +52,3 @@ impl CandidateList<'_> {
         byte_at(self.bytes, self.start(i) + COLUMNS_AT + j) as usize
     }
 }
-
-pub fn id_at(bytes: &[u8], limits: Limits, at: Layout, i: usize) -> u32
-    requires candidates_read { CandidatesRead limits (length bytes.now) at }
-    requires i_lt_count { i < at.candidates.count }
-    ensures { result ≡ id_at limits bytes.now at i }
-{
-    CandidateList { bytes, limits, at }.id(i)
-}
-
-pub fn units_at(bytes: &[u8], limits: Limits, at: Layout, i: usize) -> usize
-    requires candidates_read { CandidatesRead limits (length bytes.now) at }
-    requires i_lt_count { i < at.candidates.count }
-    ensures { result ≡ units_at limits bytes.now at i }
-{
-    CandidateList { bytes, limits, at }.units(i)
-}
-
-pub fn column_at(bytes: &[u8], limits: Limits, at: Layout, i: usize, j: usize) -> usize
-    requires candidates_read { CandidatesRead limits (length bytes.now) at }
-    requires i_lt_count { i < at.candidates.count }
-    requires j_lt_units { j < limits.units }
-    ensures { result ≡ column_at limits bytes.now at i j }
-{
-    CandidateList { bytes, limits, at }.column(i, j)
-}

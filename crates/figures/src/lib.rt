@@ -4,11 +4,9 @@
 #![tactic(auto)]
 
 ghost use Rattle.std.specs.Prelude.{◌≡◌, ◌+◌, ◌*◌, ◌≤◌, length};
-ghost use Rattle.ieee.specs.Range.{within};
 ghost use Rattle.record.specs.Inner.Bounds.{Within};
 ghost use Rattle.record.specs.Format.{costs_bytes, table_bytes};
-ghost use Rattle.limits.specs.Common.{million, thousand};
-ghost use Rattle.record.specs.Conditions.{f32_at, f64_at, is_duration, bad_scores, bad_figures, bad_table, bad_cost};
+ghost use Rattle.record.specs.Conditions.{bad_scores, bad_figures, bad_table, bad_cost};
 
 use ieee::range::{nonpositive64, within};
 use limits::common::DURATIONS;

@@ -2,7 +2,6 @@
 
 ghost use Rattle.std.specs.Prelude.{◌≡◌, ◌<◌, length, Ok};
 ghost use Rattle.limits.specs.Capacity.{unit_counts};
-ghost use Rattle.record.specs.Inner.Accepted.{Laid};
 ghost use Rattle.rows.specs.Reads.{reached_by};
 ghost use Rattle.stages.specs.Lists.{words_long};
 ghost use Rattle.most_units.specs.Answers.{Answers};
@@ -14,8 +13,7 @@ use limits::capacity::MOST_BOUNDARIES;
 use limits::edition::limits_of;
 use limits::refusal::Refusal;
 use paths::passes::Strictness;
-use reading::read;
-use record::layout::Layout;
+use reading::accepted::AcceptedRecord;
 use record::read::Which;
 use rows::reached::first_reached;
 use stages::lists::WORDS;
@@ -34,18 +32,17 @@ fn last_reached(words: &[u32], strictness: Strictness, n: usize, cap: usize) -> 
 }
 
 // The most units in a stage of an accepted record; none where there is no path.
-fn most_of(bytes: &[u8], at: Layout, which: Which, strictness: Strictness) -> Option<u32>
-    requires { Laid bytes.now at }
-    ensures { Answers bytes.now which strictness (Ok result) }
+fn most_of(accepted: &AcceptedRecord, which: Which, strictness: Strictness) -> Option<u32>
+    ensures { Answers accepted.now.bytes.now which strictness (Ok result) }
 {
     let mut bounds = [0u32; MOST_BOUNDARIES];
-    let n = read::boundaries(bytes, at, which, &mut bounds);
+    let n = accepted.boundaries(which, &mut bounds);
     if n == 0 {
         return None;
     }
     let mut words = [0u32; WORDS];
-    lay_reach(bytes, at, which, &bounds[..n], &mut words);
-    let cap = limits_of(at.edition).units;
+    lay_reach(accepted, which, &bounds[..n], &mut words);
+    let cap = limits_of(accepted.at.edition).units;
     Some(last_reached(&words, strictness, n, cap) as u32)
 }
 
@@ -59,5 +56,6 @@ pub fn most_units(
     ensures { Answers «record».now which strictness result }
 {
     let at = check(record)?;
-    Ok(most_of(record, at, which, strictness))
+    let accepted = AcceptedRecord::new(record, at);
+    Ok(most_of(&accepted, which, strictness))
 }

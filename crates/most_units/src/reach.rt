@@ -3,27 +3,24 @@
 ghost use Rattle.std.specs.Prelude.{◌≡◌, length};
 ghost use Rattle.paths.specs.Anchors.{kept};
 ghost use Rattle.record.specs.Meaning.{phrase_of, stage_of};
-ghost use Rattle.record.specs.Inner.Accepted.{Laid};
 ghost use Rattle.stages.specs.Lists.{words_long};
 ghost use Rattle.most_units.specs.Inner.Reach.{Reach};
 
 use limits::capacity::MOST_ANCHORS;
 use prepare::stage::parts_of;
-use reading::read;
-use record::layout::Layout;
+use reading::accepted::AcceptedRecord;
 use record::read::Which;
 use stages::anchors::place_anchors;
 use stages::search::lay_parts;
 
 // The words that a search reads, of a stage with these boundaries.
-pub(crate) fn lay_reach(bytes: &[u8], at: Layout, which: Which, bounds: &[u32], words: &mut [u32])
-    requires laid { Laid bytes.now at }
-    requires bounds_value { (bounds.now ≡ (stage_of which (phrase_of bytes.now)).boundaries) × (length words.old ≡ words_long) }
-    ensures { Reach (kept (phrase_of bytes.now) (stage_of which (phrase_of bytes.now)))
-        (stage_of which (phrase_of bytes.now)).boundaries words.new }
+pub(crate) fn lay_reach(accepted: &AcceptedRecord, which: Which, bounds: &[u32], words: &mut [u32])
+    requires bounds_value { (bounds.now ≡ (stage_of which (phrase_of accepted.now.bytes.now)).boundaries) × (length words.old ≡ words_long) }
+    ensures { Reach (kept (phrase_of accepted.now.bytes.now) (stage_of which (phrase_of accepted.now.bytes.now)))
+        (stage_of which (phrase_of accepted.now.bytes.now)).boundaries words.new }
 {
     let mut anchors = [0u32; MOST_ANCHORS];
-    let count = read::anchors(bytes, at, which, &mut anchors);
-    let stage = parts_of(bytes, at, which, &anchors[..count], bounds);
+    let count = accepted.anchors(which, &mut anchors);
+    let stage = parts_of(accepted, which, accepted.mask(), &anchors[..count], bounds);
     lay_parts(&stage, &place_anchors(&stage), words);
 }

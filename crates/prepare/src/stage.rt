@@ -3,7 +3,6 @@
 ghost use Rattle.std.specs.Prelude.{◌≡◌, ◌-◌, ◌<◌, ◌≤◌, ◌^◌, length, replicate};
 ghost use Rattle.paths.specs.Anchors.{kept};
 ghost use Rattle.record.specs.Meaning.{phrase_of, stage_of};
-ghost use Rattle.record.specs.Inner.Accepted.{Laid};
 ghost use Rattle.record.specs.Inner.Reading.{HasTable};
 ghost use Rattle.limits.specs.Common.{durations};
 ghost use Rattle.stages.specs.Kept.{kept_of};
@@ -13,7 +12,7 @@ ghost use Rattle.prepare.specs.Sides.{first_row_in, durations_of, IsStage, Follo
 
 use limits::capacity::{MOST_ANCHORS, MOST_BOUNDARIES};
 use limits::common::{DURATIONS, SHORTEST_UNIT};
-use reading::read;
+use reading::accepted::AcceptedRecord;
 use record::layout::Layout;
 use record::read::Which;
 use spans::bounds::Bounds;
@@ -36,23 +35,23 @@ pub fn row_from(at: Layout, which: Which) -> u32
     }
 }
 
-// The parts of a stage whose anchors and boundaries are read.
+// The parts of a stage, with the mask, the anchors and the boundaries that are read.
 pub fn parts_of<'a>(
-    bytes: &'a [u8],
-    at: Layout,
+    accepted: &AcceptedRecord,
     which: Which,
+    mask: &'a [u8],
     anchors: &'a [u32],
     bounds: &'a [u32],
 ) -> StageParts<'a>
-    requires laid { Laid bytes.now at }
-    requires anchors_read { anchors.now ≡ (stage_of which (phrase_of bytes.now)).anchors }
-    requires bounds_read { bounds.now ≡ (stage_of which (phrase_of bytes.now)).boundaries }
-    ensures { IsStage (phrase_of bytes.now) (stage_of which (phrase_of bytes.now)) result }
+    requires mask_read { mask.now ≡ (phrase_of accepted.now.bytes.now).mask }
+    requires anchors_read { anchors.now ≡ (stage_of which (phrase_of accepted.now.bytes.now)).anchors }
+    requires bounds_read { bounds.now ≡ (stage_of which (phrase_of accepted.now.bytes.now)).boundaries }
+    ensures { IsStage (phrase_of accepted.now.bytes.now) (stage_of which (phrase_of accepted.now.bytes.now)) result }
 {
     StageParts {
-        mask: read::mask(bytes, at),
+        mask,
         anchors,
-        first_row: row_from(at, which),
+        first_row: row_from(accepted.at, which),
         bounds,
     }
 }
@@ -126,76 +125,70 @@ fn lay_words(stage: &StageParts, lo_edge: u32, hi_edge: u32, words: &mut [u32])
 
 // The words of a stage with these boundaries.
 fn lay_stage_words(
-    bytes: &[u8],
-    at: Layout,
+    accepted: &AcceptedRecord,
     which: Which,
     bounds: &[u32],
     lo_edge: u32,
     hi_edge: u32,
     words: &mut [u32],
 )
-    requires laid { Laid bytes.now at }
-    requires bounds_value { (bounds.now ≡ (stage_of which (phrase_of bytes.now)).boundaries) × (length words.old ≡ words_long) }
-    ensures { Worded (kept (phrase_of bytes.now) (stage_of which (phrase_of bytes.now)))
-        (stage_of which (phrase_of bytes.now)).anchors
-        (stage_of which (phrase_of bytes.now)).boundaries lo_edge hi_edge words.new }
+    requires bounds_value { (bounds.now ≡ (stage_of which (phrase_of accepted.now.bytes.now)).boundaries) × (length words.old ≡ words_long) }
+    ensures { Worded (kept (phrase_of accepted.now.bytes.now) (stage_of which (phrase_of accepted.now.bytes.now)))
+        (stage_of which (phrase_of accepted.now.bytes.now)).anchors
+        (stage_of which (phrase_of accepted.now.bytes.now)).boundaries lo_edge hi_edge words.new }
 {
     let mut anchors = [0u32; MOST_ANCHORS];
-    let count = read::anchors(bytes, at, which, &mut anchors);
-    let stage = parts_of(bytes, at, which, &anchors[..count], bounds);
+    let count = accepted.anchors(which, &mut anchors);
+    let stage = parts_of(accepted, which, accepted.mask(), &anchors[..count], bounds);
     lay_words(&stage, lo_edge, hi_edge, words);
 }
 
-fn lay_durations(bytes: &[u8], at: Layout, which: Which, out: &mut [f64])
-    requires laid { Laid bytes.now at }
-    requires has_table { HasTable which (phrase_of bytes.now) }
+fn lay_durations(accepted: &AcceptedRecord, which: Which, out: &mut [f64])
+    requires has_table { HasTable which (phrase_of accepted.now.bytes.now) }
     requires out_len { length out.old ≡ durations }
-    ensures { out.new ≡ durations_of (stage_of which (phrase_of bytes.now)) }
+    ensures { out.new ≡ durations_of (stage_of which (phrase_of accepted.now.bytes.now)) }
 {
     write_each(
         out,
         DURATIONS,
-        |i| read::duration(bytes, at, which, i + SHORTEST_UNIT),
+        |i| accepted.duration(which, i + SHORTEST_UNIT),
     );
 }
 
 // The figures of a stage with these boundaries. The nuclei are the record's, whatever the stage.
-fn lay_figures(bytes: &[u8], at: Layout, which: Which, bounds: &[u32], figures: &mut [f64])
-    requires laid { Laid bytes.now at }
-    requires has_table { HasTable which (phrase_of bytes.now) }
-    requires bounds_value { (bounds.now ≡ (stage_of which (phrase_of bytes.now)).boundaries) × (length figures.old ≡ figures_long) }
-    ensures { Figured (phrase_of bytes.now) (stage_of which (phrase_of bytes.now)) figures.new }
+fn lay_figures(accepted: &AcceptedRecord, which: Which, bounds: &[u32], figures: &mut [f64])
+    requires has_table { HasTable which (phrase_of accepted.now.bytes.now) }
+    requires bounds_value { (bounds.now ≡ (stage_of which (phrase_of accepted.now.bytes.now)).boundaries) × (length figures.old ≡ figures_long) }
+    ensures { Figured (phrase_of accepted.now.bytes.now) (stage_of which (phrase_of accepted.now.bytes.now)) figures.new }
 {
     let mut nuclei = [0u32; MOST_ANCHORS];
-    let n = read::anchors(bytes, at, Which::Nuclei, &mut nuclei);
+    let n = accepted.anchors(Which::Nuclei, &mut nuclei);
     lay_filler(
-        read::mask(bytes, at),
+        accepted.mask(),
         &nuclei[..n],
         bounds,
-        read::costs(bytes, at),
+        accepted.costs(),
         &mut figures[0..DURATION],
     );
-    lay_durations(bytes, at, which, &mut figures[DURATION..FIGURES]);
+    lay_durations(accepted, which, &mut figures[DURATION..FIGURES]);
 }
 
-// The added stage has tables only where it has an anchor.
+// The added stage has tables only where it has an anchor. The edges stay two numbers, as callers find them and `spans_ascending` takes them.
 pub fn lay_stage(
-    bytes: &[u8],
-    at: Layout,
+    accepted: &AcceptedRecord,
     which: Which,
     lo_edge: u32,
     hi_edge: u32,
     words: &mut [u32],
     figures: &mut [f64],
 )
-    requires laid { Laid bytes.now at }
-    requires has_table { HasTable which (phrase_of bytes.now) }
+    requires has_table { HasTable which (phrase_of accepted.now.bytes.now) }
     requires words_len { (length words.old ≡ words_long) × (length figures.old ≡ figures_long) }
-    ensures { Prepared (phrase_of bytes.now) (stage_of which (phrase_of bytes.now)) lo_edge hi_edge
+    ensures { Prepared (phrase_of accepted.now.bytes.now) (stage_of which (phrase_of accepted.now.bytes.now)) lo_edge hi_edge
         words.new figures.new }
 {
     let mut bounds = [0u32; MOST_BOUNDARIES];
-    let b = read::boundaries(bytes, at, which, &mut bounds);
-    lay_stage_words(bytes, at, which, &bounds[..b], lo_edge, hi_edge, words);
-    lay_figures(bytes, at, which, &bounds[..b], figures);
+    let b = accepted.boundaries(which, &mut bounds);
+    lay_stage_words(accepted, which, &bounds[..b], lo_edge, hi_edge, words);
+    lay_figures(accepted, which, &bounds[..b], figures);
 }

@@ -1,8 +1,7 @@
 -- What is left to write after a turn of each loop over words.
 use Prim.Native.Nat.{ℕ, suc, ◌+◌, ◌-◌, ◌*◌, ◌≤◌, ◌<◌}
 use mathlib.Core.List.{List, [], ◌++◌}
-use mathlib.Core.Path.{◌≡◌, sym, ap, ap₂, subst, subst₂, ◌∙◌}
-use native.Mathlib.Nat.{zero-mul}
+use mathlib.Core.Path.{◌≡◌, sym, ap, subst, ◌∙◌}
 use native.Mathlib.Omega.{arith}
 use lib.ListN.{length, get_or, take, drop, length-drop}
 use lib.Seq.{take_all, drop-drop}
@@ -27,9 +26,6 @@ abbrev pub units_left : List ℕ → ℕ → ℕ → List ℕ
 units_left words count i = unit_lines (units_in (count - i) (drop (3 * i) words))
 
 module _ (words : List ℕ) where
-  pub units_all : (count : ℕ) → unit_lines (units_in count words) ≡ units_left words count 0
-  units_all count = let same : count ≡ count - 0 = omega arith in ap (λ (n : ℕ). unit_lines (units_in n words)) same
-
   pub units_turn : (count i : ℕ) → i < count → units_left words count i ≡ unit_line (first_unit (drop (3 * i) words)) ++ units_left words count (i + 1)
   unfolding unit_lines units_in
   units_turn count i more_left =
@@ -58,12 +54,6 @@ module _ (most : ℕ) (words : List ℕ) where
   further : (i : ℕ) → drop (entry_words most) (words_left most words i) ≡ words_left most words (i + 1)
   further i = drop-drop (entry_words most) (i * entry_words most) words ∙ ap (λ (n : ℕ). drop n words) (next_row i (entry_words most))
 
-  from_first : words_left most words 0 ≡ words
-  from_first = ap (λ (n : ℕ). drop n words) (zero-mul (entry_words most))
-
-  pub entries_all : (count : ℕ) → all_lines_in (entry_words most) count words ≡ entries_left most words count 0
-  entries_all count = let same : count ≡ count - 0 = omega arith in ap₂ (all_lines_in (entry_words most)) same (sym from_first)
-
   pub entries_turn : (count i : ℕ) → i < count
       → entries_left most words count i ≡ lines_in (words_left most words i) ++ entries_left most words count (i + 1)
   unfolding all_lines_in
@@ -77,9 +67,6 @@ module _ (most : ℕ) (words : List ℕ) where
   entries_end count i none_left =
       let nothing : count - i ≡ 0 = omega arith in
       ap (λ (n : ℕ). all_lines_in (entry_words most) n (words_left most words i)) nothing
-
-  pub whole_all : (count : ℕ) → AllWhole most count words → AllWhole most (count - 0) (words_left most words 0)
-  whole_all count whole = let same : count ≡ count - 0 = omega arith in subst₂ (AllWhole most) same (sym from_first) whole
 
   module _ (count i : ℕ) (more_left : i < count) (whole : AllWhole most (count - i) (words_left most words i)) where
     split : {left : ℕ} → AllWhole most (suc left) (words_left most words i)
@@ -96,9 +83,6 @@ module _ (most : ℕ) (words : List ℕ) where
 
     pub whole_later : AllWhole most (count - (i + 1)) (words_left most words (i + 1))
     whole_later = both.1
-
-    pub whole_within : i * entry_words most + entry_words most ≤ length words
-    whole_within = omega (arith, whole_first.there, length-drop (i * entry_words most) words)
 
     -- as the part of a slice that is lent
     pub whole_lent : Whole most (take (length words - i * entry_words most) (words_left most words i))

@@ -6,16 +6,18 @@ ghost use Rattle.record.specs.Layout.{limits_at};
 ghost use Rattle.record.specs.Meaning.{frames_at, phrase_of, stage_of};
 ghost use Rattle.record.specs.Inner.Accepted.{Laid};
 ghost use Rattle.record.specs.Inner.Bounds.{CandidatesRead, Within};
-ghost use Rattle.record.specs.Inner.Reading.{anchor_section, boundary_section, table_start, HasTable, candidate_of, over, Copied, IsFloat, row_start, ScoreRow};
+ghost use Rattle.record.specs.Inner.Reading.{anchor_section, boundary_section, table_start, HasTable, edges_of, candidate_of, over, Copied, IsFloat, row_start, ScoreRow};
 
 use fields::CandidateList;
-use limits::common::SHORTEST_UNIT;
+use limits::common::{ABSENT, SHORTEST_UNIT};
 use limits::edition::limits_of;
 use phrase::costs::Costs;
 use record::bytes::{numbers_at, u32_at, u64_at};
-use record::format::{FIRST_TABLE_AT, INSERTION_AT, SECOND_TABLE_AT, UNVOICED_AT};
+use record::format::{
+    FIRST_TABLE_AT, INSERTION_AT, SECOND_TABLE_AT, SPEECH_END_AT, SPEECH_START_AT, UNVOICED_AT,
+};
 use record::layout::{Layout, Section};
-use record::read::Which;
+use record::read::{Edges, Which};
 
 // A record that no rule of its own refuses, with its layout.
 #[derive(Clone, Copy)]
@@ -107,6 +109,19 @@ impl<'a> AcceptedRecord<'a> {
             per_frame: f64::from_bits(u64_at(self.bytes, start)),
             insertion_llr: f64::from_bits(u64_at(self.bytes, start + INSERTION_AT)),
             unvoiced: f32::from_bits(u32_at(self.bytes, start + UNVOICED_AT)),
+        }
+    }
+
+    // The speech edges; both words at their greatest mean no speech.
+    pub fn speech(&self) -> Option<Edges>
+        ensures { edges_of result ≡ (phrase_of self.now.bytes.now).speech }
+    {
+        let start = u32_at(self.bytes, self.at.costs + SPEECH_START_AT);
+        let end = u32_at(self.bytes, self.at.costs + SPEECH_END_AT);
+        if (start == ABSENT) & (end == ABSENT) {
+            None
+        } else {
+            Some(Edges { start, end })
         }
     }
 

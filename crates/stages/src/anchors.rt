@@ -16,7 +16,8 @@ use limits::capacity::{ANCHOR_ROOM, MOST_EDGES};
 use limits::common::ABSENT;
 
 // The anchors of a stage that are within the mask, and the place of each boundary among them: how many are before it, and at last how many
-// there are. The frames are followed by `ABSENT`, which no boundary passes, so that the look ahead reads two of them without a test.
+// there are. The frames are followed by `ABSENT`, which no boundary passes, so that the look ahead reads two of them without a test. Frames and
+// rows are two arrays, since both walks over them read one alone.
 #[derive(Drop)]
 pub struct PlacedAnchors {
     pub frames: [u32; ANCHOR_ROOM],

@@ -50,14 +50,6 @@ pub record Printing (first : Page) (text : List ℕ) (page : Page) (left : List 
   pub same_slice : page.bytes.ghost_name ≡ first.bytes.ghost_name
 
 module _ {first : Page} {text : List ℕ} where
-  pub begun : {left : List ℕ} → text ≡ left → Printing first text first left
-  begun same = record {
-    writes = ap (sets first.bytes.now first.len) same;
-    ends = ap (λ (left : List ℕ). first.len + length left) same;
-    long = refl;
-    same_slice = refl;
-  }
-
   pub goes_on : {m : ℕ} {page page' : Page} {left xs ys : List ℕ} → Printing first text page left → left ≡ xs ++ ys → Prints m page xs page' → Printing first text page' ys
   goes_on {page = page} {xs = xs} {ys = ys} printing parts prints = record {
     writes =

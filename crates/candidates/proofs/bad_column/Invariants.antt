@@ -6,4 +6,4 @@ use Rattle.record.specs.Conditions.{column_at}
 use Rattle.candidates.proofs.bad_column.Given as goal
 
 abbrev pub invariant-loop-j : goal.invariant-loop-j
-invariant-loop-j l = any_below (λ (j : ℕ). leb l.columns (column_at l.limits l.bytes l.at l.i j)) l.j ≡ false
+invariant-loop-j l = any_below (λ (j : ℕ). leb l.columns (column_at l.list.limits l.list.bytes.now l.list.at l.i j)) l.j ≡ false

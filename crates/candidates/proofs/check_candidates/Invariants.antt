@@ -6,4 +6,4 @@ use Rattle.candidates.proofs.Rules.{rest}
 use Rattle.candidates.proofs.check_candidates.Given as goal
 
 abbrev pub invariant-loop-i : goal.invariant-loop-i
-invariant-loop-i l = rest l.limits l.bytes l.at.candidates.count l.i ≡ first_of (candidate_rules l.limits l.bytes 0 l.at.candidates.count)
+invariant-loop-i l = rest l.list.limits l.list.bytes.now l.list.at.candidates.count l.i ≡ first_of (candidate_rules l.list.limits l.list.bytes.now 0 l.list.at.candidates.count)

@@ -8,10 +8,10 @@ use Rattle.candidates.proofs.repeated.Goals as goal
 pub loop-j-init : goal.loop-j-init
 loop-j-init c = any_none _
 
-pub returns-then-id_at-id : goal.returns-then-id_at-id
-returns-then-id_at-id c =
-    sym (any_found _ _ _ c.loop-j-test.true (ap₂ eqb (sym c.id_at.ensures) (sym c.id_at-id.ensures) ∙ eq-eqb _ _ c.if-id_at-id.true))
+pub returns-then-id : goal.returns-then-id
+returns-then-id c =
+    sym (any_found _ _ _ c.loop-j-test.true (ap₂ eqb (sym c.id.ensures) (sym c.id-id.ensures) ∙ eq-eqb _ _ c.if-id.true))
 
 pub loop-j-preserved : goal.loop-j-preserved
 loop-j-preserved c =
-    any_more _ _ c.loop-j.invariant (ap₂ eqb (sym c.id_at.ensures) (sym c.id_at-id.ensures) ∙ ne_eqb _ _ c.if-id_at-id.false)
+    any_more _ _ c.loop-j.invariant (ap₂ eqb (sym c.id.ensures) (sym c.id-id.ensures) ∙ ne_eqb _ _ c.if-id.false)

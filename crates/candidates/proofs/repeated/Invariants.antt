@@ -6,4 +6,4 @@ use Rattle.record.specs.Conditions.{id_at}
 use Rattle.candidates.proofs.repeated.Given as goal
 
 abbrev pub invariant-loop-j : goal.invariant-loop-j
-invariant-loop-j l = any_below (λ (j : ℕ). eqb (id_at l.limits l.bytes l.at j) (id_at l.limits l.bytes l.at l.i)) l.j ≡ false
+invariant-loop-j l = any_below (λ (j : ℕ). eqb (id_at l.list.limits l.list.bytes.now l.list.at j) (id_at l.list.limits l.list.bytes.now l.list.at l.i)) l.j ≡ false

@@ -26,6 +26,6 @@ returns-then-at-eq0 c =
 pub returns : goal.returns
 returns c =
     c.check_candidates.ensures
-    ∙ ap (λ (l : Limits). answer (first_of (candidate_rules l c.args.bytes.now 0 c.args.at.candidates.count)) tt) c.limits_of.ensures
+    ∙ ap (λ (l : Limits). answer (first_of (candidate_rules l c.args.bytes.now 0 c.args.at.candidates.count)) tt) c.limits_of-limits.ensures
     ∙ ap (λ (o : Option Refusal). answer o tt)
     (finds_later _ _ c.requires.at_value (sym c.bad_track.ensures ∙ c.if-bad_track.false) (sym c.bad_cost.ensures ∙ c.if-bad_cost.false) c.if-at-eq0.false)

@@ -23,29 +23,28 @@ cells laid looked_up counted = counted ∙ ap work_cells (looked_up ∙ laid_lim
 
 pub clear-requires : goal.clear-requires
 clear-requires c =
-    let n = cells c.requires.0 c.limits_of-limits.ensures c.work_cells.ensures in
-    (omega (arith, c.requires.1.values), omega (arith, c.requires.1.marks))
+    let n = cells c.args.accepted.laid c.limits_of-limits.ensures c.work_cells.ensures in
+    (omega (arith, c.requires.values), omega (arith, c.requires.marks))
 
 pub new-decoder-requires : goal.new-decoder-requires
 new-decoder-requires c =
     let planned = c.plan_of-plan.ensures in
     record {
-      laid = c.requires.0;
       planned = planned;
       nuclei_prepared = prepared_by planned c.lay_stage.ensures;
-      added_there = added_there c.requires.0 _ c.then_some-added.ensures;
-      added_prepared = added_prepared c.requires.0 _ c.then_some-added.ensures (λ there. prepared_by planned (c.lay_added.ensures.there there));
+      added_there = added_there c.args.accepted.laid _ c.then_some-added.ensures;
+      added_prepared = added_prepared c.args.accepted.laid _ c.then_some-added.ensures (λ there. prepared_by planned (c.lay_added.ensures.there there));
     }
 
 pub put_candidates-requires-clause-unused : goal.put_candidates-requires-clause-unused
 put_candidates-requires-clause-unused c =
-    let n = cells c.requires.0 c.limits_of-limits.ensures c.work_cells.ensures in
+    let n = cells c.args.accepted.laid c.limits_of-limits.ensures c.work_cells.ensures in
     subst (λ (bytes : List ℕ). Unused c.clear.new.best c.clear.new.back (work_cells (limits_of bytes))) (sym c.new-decoder.ensures)
-    (unused_cleared _ _ _ (rw n at c.clear.ensures.best_after) (rw n at c.clear.ensures.back_after) c.requires.1.values c.requires.1.marks)
+    (unused_cleared _ _ _ (rw n at c.clear.ensures.best_after) (rw n at c.clear.ensures.back_after) c.requires.values c.requires.marks)
 
 pub returns : goal.returns
 returns c =
-    let n = cells c.requires.0 c.limits_of-limits.ensures c.work_cells.ensures in
+    let n = cells c.args.accepted.laid c.limits_of-limits.ensures c.work_cells.ensures in
     let put = c.put_candidates.ensures in
     record {
       words = rw c.new-decoder.ensures at put.out_after;

@@ -7,12 +7,12 @@ use Rattle.prepare.proofs.Lists.{copied_front}
 use Rattle.decode.proofs.Plans.{some_speaks, runs_voiced}
 use Rattle.decode.proofs.plan.runs_of.Goals as goal
 
-pub anchors-count-requires-clause-bytes_in_bounds : goal.anchors-count-requires-clause-bytes_in_bounds
-anchors-count-requires-clause-bytes_in_bounds c = few_anchors_law c.requires.laid Nuclei
+pub anchors-count-requires : goal.anchors-count-requires
+anchors-count-requires c = few_anchors_law c.args.accepted.now.laid Nuclei
 
 pub returns : goal.returns
 returns c =
     record {
-      spoken = c.is_some.ensures ∙ some_speaks c.args.edges ∙ ap speaks c.requires.edges_value;
-      voiced = c.has_nucleus-voiced.ensures ∙ runs_voiced c.requires.laid c.mask.ensures (copied_front c.anchors-count.ensures);
+      spoken = c.is_some.ensures ∙ some_speaks c.args.edges ∙ ap speaks c.requires;
+      voiced = c.has_nucleus-voiced.ensures ∙ runs_voiced c.args.accepted.now.laid c.mask.ensures (copied_front c.anchors-count.ensures);
     }

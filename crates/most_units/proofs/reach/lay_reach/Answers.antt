@@ -4,9 +4,9 @@ use Rattle.prepare.proofs.Parts.{few_anchors_law}
 use Rattle.most_units.specs.Inner.Reach.{Reach}
 use Rattle.most_units.proofs.reach.lay_reach.Goals as goal
 
-pub anchors-count-requires-clause-bytes_in_bounds :
-    goal.anchors-count-requires-clause-bytes_in_bounds
-anchors-count-requires-clause-bytes_in_bounds c = few_anchors_law c.requires.laid c.args.which
+pub anchors-count-requires :
+    goal.anchors-count-requires
+anchors-count-requires c = few_anchors_law c.args.accepted.now.laid c.args.which
 
 pub returns : goal.returns
 returns c =

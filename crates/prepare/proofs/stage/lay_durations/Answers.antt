@@ -7,6 +7,6 @@ use Rattle.prepare.proofs.stage.lay_durations.Goals as goal
 
 pub returns : goal.returns
 returns c =
-    let duration = λ (i : ℕ). (stage_of c.args.which (phrase_of c.args.bytes.now)).duration (i + shortest_unit) in
+    let duration = λ (i : ℕ). (stage_of c.args.which (phrase_of c.args.accepted.now.bytes.now)).duration (i + shortest_unit) in
     c.write_each.ensures duration (λ i x below read. search rules)
     ∙ written_full duration durations no_cost c.args.out.now c.requires.out_len

@@ -15,13 +15,13 @@ use Rattle.prepare.proofs.Lists.{copied_front}
 use Rattle.prepare.proofs.Parts.{few_anchors_law, read_fit, read_listed}
 use Rattle.prepare.proofs.stage.lay_figures.Goals as goal
 
-pub anchors-n-requires-clause-bytes_in_bounds :
-    goal.anchors-n-requires-clause-bytes_in_bounds
-anchors-n-requires-clause-bytes_in_bounds c = few_anchors_law c.requires.laid Nuclei
+pub anchors-n-requires :
+    goal.anchors-n-requires
+anchors-n-requires c = few_anchors_law c.args.accepted.now.laid Nuclei
 
 pub lay_filler-requires : goal.lay_filler-requires
 lay_filler-requires c =
-    let h = c.requires.laid in (
+    let h = c.args.accepted.now.laid in (
       read_fit h c.args.which c.mask.ensures c.requires.bounds_value.0,
       read_listed h Nuclei (copied_front c.anchors-n.ensures),
       length-take-le filler_long c.args.figures.now (omega (arith, c.requires.bounds_value.1)),
@@ -29,7 +29,7 @@ lay_filler-requires c =
 
 pub returns : goal.returns
 returns c =
-    let stage = stage_of c.args.which (phrase_of c.args.bytes.now) in
+    let stage = stage_of c.args.which (phrase_of c.args.accepted.now.bytes.now) in
     let figures = c.args.figures.now in
     let p = c.lay_filler.new.figures in
     let q = c.lay_durations.new.out in

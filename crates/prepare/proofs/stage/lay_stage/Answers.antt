@@ -5,11 +5,11 @@ use Rattle.prepare.proofs.Parts.{few_boundaries_law}
 use Rattle.prepare.proofs.Prepared.{prepared}
 use Rattle.prepare.proofs.stage.lay_stage.Goals as goal
 
-pub boundaries-b-requires-clause-bytes_in_bounds :
-    goal.boundaries-b-requires-clause-bytes_in_bounds
-boundaries-b-requires-clause-bytes_in_bounds c = few_boundaries_law c.requires.laid c.args.which
+pub boundaries-b-requires :
+    goal.boundaries-b-requires
+boundaries-b-requires c = few_boundaries_law c.args.accepted.now.laid c.args.which
 
 pub returns : goal.returns
 returns c =
-    let phrase = phrase_of c.args.bytes.now in
-    prepared phrase (stage_of c.args.which phrase) (nuclei_first c.args.bytes.now) c.lay_stage_words.ensures c.lay_figures.ensures
+    let phrase = phrase_of c.args.accepted.now.bytes.now in
+    prepared phrase (stage_of c.args.which phrase) (nuclei_first c.args.accepted.now.bytes.now) c.lay_stage_words.ensures c.lay_figures.ensures

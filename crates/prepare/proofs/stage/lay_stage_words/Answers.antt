@@ -4,12 +4,12 @@ use Rattle.prepare.specs.Sides.{Worded}
 use Rattle.prepare.proofs.Parts.{few_anchors_law, read_followed}
 use Rattle.prepare.proofs.stage.lay_stage_words.Goals as goal
 
-pub anchors-count-requires-clause-bytes_in_bounds :
-    goal.anchors-count-requires-clause-bytes_in_bounds
-anchors-count-requires-clause-bytes_in_bounds c = few_anchors_law c.requires.laid c.args.which
+pub anchors-count-requires :
+    goal.anchors-count-requires
+anchors-count-requires c = few_anchors_law c.args.accepted.now.laid c.args.which
 
 pub lay_words-requires-clause-followed : goal.lay_words-requires-clause-followed
-lay_words-requires-clause-followed c = read_followed c.requires.laid c.args.which c.parts_of-stage.ensures.anchored
+lay_words-requires-clause-followed c = read_followed c.args.accepted.now.laid c.args.which c.parts_of-stage.ensures.anchored
 
 pub returns : goal.returns
 returns c =

@@ -9,5 +9,5 @@ abbrev pub invariant-loop-candidate : goal.invariant-loop-candidate
 invariant-loop-candidate l = record {
   values : l.best ≡ l.initial.best;
   marks : l.back ≡ l.initial.back;
-  held : l.out ≡ held_after (limits_of l.self.bytes.now).units (phrase_of l.self.bytes.now) l.candidate l.initial.out;
+  held : l.out ≡ held_after (limits_of l.self.accepted.bytes.now).units (phrase_of l.self.accepted.bytes.now) l.candidate l.initial.out;
 }
