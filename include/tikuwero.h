@@ -20,8 +20,8 @@
  *
  * No call allocates or keeps anything: there is no heap and no static variable, so that calls on
  * different memory may run at the same time. The archive needs memcpy and memset of the C library
- * and nothing else. It is for x86-64-v2. tikuwero_decode takes up to 12,448 bytes of stack and
- * tikuwero_most_units 4,080, whatever the record, with the return address and without what memcpy
+ * and nothing else. It is for x86-64-v2. tikuwero_decode takes up to 11,968 bytes of stack and
+ * tikuwero_most_units 3,600, whatever the record, with the return address and without what memcpy
  * and memset take (counted from the archive's instructions, not proved).
  *
  * A frame is 10 ms. A mask has a byte for each frame, 1 where the frame has the mark and else 0; a

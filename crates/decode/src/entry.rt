@@ -74,7 +74,8 @@ impl Decoder<'_> {
         requires unused { Unused best.old back.old (work_cells (limits_by self.now)) }
         requires number_in_bounds { number < length (phrase_by self.now).candidates }
         requires room { (number + 1) * entry_words (limits_by self.now).units ≤ length out.old }
-        ensures inserted { Inserted (limits_by self.now).units number (entry_of (phrase_by self.now) (candidate_of (phrase_by self.now) number))
+        ensures inserted { Inserted (limits_by self.now).units number
+            (entry_of (phrase_by self.now) (candidate_of (phrase_by self.now) number))
             out.old out.new }
         ensures best_unchanged { (best.new ≡ best.old) × (back.new ≡ back.old) }
     {

@@ -173,7 +173,7 @@ fn lay_figures(accepted: &AcceptedRecord, which: Which, bounds: &[u32], figures:
     lay_durations(accepted, which, &mut figures[DURATION..FIGURES]);
 }
 
-// The added stage has tables only where it has an anchor. The edges stay two numbers, as callers find them and `spans_ascending` takes them.
+// The added stage has tables only where it has an anchor. The edges stay two numbers, as callers find them.
 pub fn lay_stage(
     accepted: &AcceptedRecord,
     which: Which,

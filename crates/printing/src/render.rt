@@ -50,7 +50,7 @@ fn put_refused(page: &mut Page, number: u32)
     page.put(b"\n");
 }
 
-// Decodes the record.
+// Decodes the record, and writes its listing on the page.
 fn put_listing(page: &mut Page, record: &[u8])
     requires { page.old.len + listing_bytes ≤ length page.old.bytes.now }
     ensures { Prints listing_bytes page.old (listing_of «record».now) page.new }

@@ -9,8 +9,8 @@ ghost use Rattle.spans.specs.Inner.Walk.{Increasing, Walkable, Below, Splits, cu
 use crate::bounds::Bounds;
 use crate::edges::cut;
 
-// The first place from `from` on whose boundary is not below the frame. A `find` over the places takes 1.17 times the instructions of the
-// whole walk.
+// The first place from `from` on whose boundary is not below the frame. With a `find` over the places the whole walk takes 1.17 times the
+// instructions.
 fn below(boundaries: &[u32], from: usize, frame: u32) -> usize
     requires { Below boundaries.now frame from }
     ensures { Splits boundaries.now frame result }

@@ -10,20 +10,27 @@ use Rattle.laws.specs.Inner.Tables.{table_of, written}
 use Rattle.limits.specs.Capacity.{most_boundaries}
 use Rattle.stages.specs.Lists.{bounds_at, lows_at, rows_at, span_starts_at, words_long, origins_long, spans_long, table_at}
 use Rattle.stages.specs.Ranges.{entry_of}
-use Rattle.stages.proofs.Parts.{Fresh, fresh_all, fresh_next, fresh_from, copied_table, put_here, put_before, part_part}
+use Rattle.stages.proofs.Parts.{Fresh, fresh_all, fresh_next, put_here, put_before, part_part}
 
--- the words with the boundaries copied over their front
-abbrev pub with_bounds : List ℕ → List ℕ → List ℕ → List ℕ
-with_bounds bounds spare copied = put_mid 0 (length bounds) spare copied
+-- the words with the boundaries laid at their front
+abbrev pub with_bounds : List ℕ → List ℕ → List ℕ
+with_bounds spare laid = put_mid bounds_at most_boundaries spare laid
 
-module _ (bounds spare copied : List ℕ) (few : length bounds ≤ most_boundaries) (cleared : spare ≡ replicate words_long 0) (is : copied ≡ bounds) where
-  pub bounds_fresh : Fresh 0 words_long lows_at (with_bounds bounds spare copied)
-  bounds_fresh =
-      fresh_from lows_at (fresh_next (length bounds) copied (fresh_all cleared) (ap length is) (omega arith)) (omega arith)
+module _ (bounds spare laid : List ℕ) (few : length bounds ≤ most_boundaries) (cleared : spare ≡ replicate words_long 0)
+    (is : laid ≡ written (entry_of bounds) (length bounds) (table_at bounds_at spare)) where
+  bounds_are : laid ≡ table_of (entry_of bounds) (length bounds) most_boundaries 0
+  bounds_are =
+      is ∙ ap (written (entry_of bounds) (length bounds)) ((fresh_all {spare = 0} {size = words_long} cleared).rest bounds_at most_boundaries (omega arith) (omega arith))
+      ∙ written_table (entry_of bounds) (length bounds) most_boundaries 0
 
-  bounds_table : table_at bounds_at (with_bounds bounds spare copied) ≡ table_of (entry_of bounds) (length bounds) most_boundaries 0
-  bounds_table =
-      rw (is, cleared) (copied_table bounds words_long (omega arith) few)
+  bounds_long : length laid ≡ most_boundaries
+  bounds_long = ap length bounds_are ∙ length_table (entry_of bounds) (length bounds) most_boundaries 0 few
+
+  pub bounds_fresh : Fresh 0 words_long lows_at (with_bounds spare laid)
+  bounds_fresh = fresh_next most_boundaries laid (fresh_all {spare = 0} {size = words_long} cleared) bounds_long (omega arith)
+
+  bounds_table : table_at bounds_at (with_bounds spare laid) ≡ table_of (entry_of bounds) (length bounds) most_boundaries 0
+  bounds_table = put_here bounds_at most_boundaries spare laid (omega (arith, (fresh_all {spare = 0} {size = words_long} cleared).long)) bounds_long ∙ bounds_are
 
 -- The words once the rows are laid: what stands where, while those of the spans are still 0.
 pub record Ranked (bounds origins : List ℕ) (row : ℕ → ℕ) (words : List ℕ) : Type 0 where
@@ -35,17 +42,17 @@ pub record Ranked (bounds origins : List ℕ) (row : ℕ → ℕ) (words : List 
   pub spare : take spans_long (drop span_starts_at words) ≡ replicate spans_long 0
 
 -- the tables of the origins are laid behind the boundaries, and the rows behind these
-pub rows_laid : (bounds spare copied origins : List ℕ) (row : ℕ → ℕ) (rows : List ℕ)
-    → length bounds ≤ most_boundaries → spare ≡ replicate words_long 0 → copied ≡ bounds → length origins ≡ origins_long
-    → rows ≡ written row (length bounds) (table_at rows_at (put_mid lows_at origins_long (with_bounds bounds spare copied) origins))
-    → Ranked bounds origins row (put_mid rows_at most_boundaries (put_mid lows_at origins_long (with_bounds bounds spare copied) origins) rows)
-rows_laid bounds spare copied origins row rows few cleared is whole laid = record {
+pub rows_laid : (bounds spare front origins : List ℕ) (row : ℕ → ℕ) (rows : List ℕ)
+    → length bounds ≤ most_boundaries → spare ≡ replicate words_long 0 → front ≡ written (entry_of bounds) (length bounds) (table_at bounds_at spare) → length origins ≡ origins_long
+    → rows ≡ written row (length bounds) (table_at rows_at (put_mid lows_at origins_long (with_bounds spare front) origins))
+    → Ranked bounds origins row (put_mid rows_at most_boundaries (put_mid lows_at origins_long (with_bounds spare front) origins) rows)
+rows_laid bounds spare front origins row rows few cleared is whole laid = record {
   long = fresh_rows.long;
   bounded =
       put_before rows_at most_boundaries bounds_at most_boundaries with_origins rows (omega arith) (omega (arith, fresh_origins.long))
-      ∙ put_before lows_at origins_long bounds_at most_boundaries (with_bounds bounds spare copied) origins (omega arith)
+      ∙ put_before lows_at origins_long bounds_at most_boundaries (with_bounds spare front) origins (omega arith)
       (omega (arith, fresh_bounds.long))
-      ∙ bounds_table bounds spare copied few cleared is;
+      ∙ bounds_table bounds spare front few cleared is;
   ranged = origins_part;
   tables = λ at h.
       sym (part_part at most_boundaries lows_at origins_long words h (omega (arith, fresh_rows.long))) ∙ ap (table_at at) origins_part;
@@ -54,13 +61,13 @@ rows_laid bounds spare copied origins row rows few cleared is whole laid = recor
 }
   where
     with_origins : List ℕ
-    with_origins = put_mid lows_at origins_long (with_bounds bounds spare copied) origins
+    with_origins = put_mid lows_at origins_long (with_bounds spare front) origins
 
     words : List ℕ
     words = put_mid rows_at most_boundaries with_origins rows
 
-    fresh_bounds : Fresh 0 words_long lows_at (with_bounds bounds spare copied)
-    fresh_bounds = bounds_fresh bounds spare copied few cleared is
+    fresh_bounds : Fresh 0 words_long lows_at (with_bounds spare front)
+    fresh_bounds = bounds_fresh bounds spare front few cleared is
 
     fresh_origins : Fresh 0 words_long rows_at with_origins
     fresh_origins = fresh_next origins_long origins fresh_bounds whole (omega arith)
@@ -79,4 +86,4 @@ rows_laid bounds spare copied origins row rows few cleared is whole laid = recor
     origins_part : take origins_long (drop lows_at words) ≡ origins
     origins_part =
         put_before rows_at most_boundaries lows_at origins_long with_origins rows (omega arith) (omega (arith, fresh_origins.long))
-        ∙ put_here lows_at origins_long (with_bounds bounds spare copied) origins (omega (arith, fresh_bounds.long)) whole
+        ∙ put_here lows_at origins_long (with_bounds spare front) origins (omega (arith, fresh_bounds.long)) whole

@@ -3,14 +3,13 @@ use Prim.Native.Nat.{ℕ, zero, suc, ◌+◌, ◌-◌, ◌*◌, ◌≤◌, ◌<�
 use mathlib.Core.Path.{◌≡◌, refl, sym, ap, ap₂, ◌∙◌}
 use mathlib.Core.List.{List, [], ◌∷◌, ◌++◌, append_assoc, append-nil}
 use native.Mathlib.Omega.{arith}
-use lib.ListN.{length, get_or, length-drop, take, drop, replicate, length-append, length-replicate, take-append-drop, drop_of_length-le}
-use lib.Seq.{ext_get_or, length-take-le, take_at, drop_at, take-take, take-add, drop-drop, take-append-le, take-append-add, drop-append-le, drop-append-add}
+use lib.ListN.{length, length-drop, take, drop, replicate, length-append, length-replicate, take-append-drop, drop_of_length-le}
+use lib.Seq.{length-take-le, take_at, drop_at, take-take, take-add, drop-drop, take-append-le, drop-append-le, drop-append-add}
 use borrow.Rule.Slice.PartMut.{post_of, put_mid, take_put, same_len_mid}
 use Rattle.laws.proofs.Numbers.{by_order}
-use Rattle.laws.proofs.Listed.{length_listed, get_d_listed, written_table, length_table}
+use Rattle.laws.proofs.Listed.{written_table, length_table}
 use Rattle.laws.proofs.Lists.{drop_replicate}
-use Rattle.laws.specs.Listed.{listed}
-use Rattle.laws.specs.Inner.Tables.{padded, table_of, written}
+use Rattle.laws.specs.Inner.Tables.{table_of, written}
 use Rattle.limits.specs.Capacity.{most_boundaries}
 use Rattle.stages.specs.Lists.{table_at}
 
@@ -106,28 +105,6 @@ module _ {A : Type 0} {spare : A} {size : ℕ} where
     long = same_len_mid at k l p (e ∙ sym (ap length (fresh.rest at k (omega arith) within) ∙ length-replicate k spare)) ∙ fresh.long;
     rest = λ c m after h. put_after at k c m l p after (omega (arith, fresh.long)) e ∙ fresh.rest c m (omega arith) h;
   }
-
-  -- and what is left further on
-  pub fresh_from : {at : ℕ} {l : List A} (on : ℕ) → Fresh spare size at l → at ≤ on → Fresh spare size on l
-  fresh_from on fresh h = record { long = fresh.long; rest = λ c m after within. fresh.rest c m (omega arith) within }
-
--- a list by its entries
-listed_entries : (list : List ℕ) → listed (λ j. get_or list j 0) (length list) ≡ list
-listed_entries list =
-    ext_get_or 0 (listed (λ j. get_or list j 0) (length list)) list (length_listed (λ j. get_or list j 0) (length list))
-    (λ i h. get_d_listed (λ j. get_or list j 0) (length list) i 0 (omega (arith, length_listed (λ j. get_or list j 0) (length list))))
-
--- a list copied over the front of spare entries is a table
-pub copied_table : (list : List ℕ) (size : ℕ) → most_boundaries ≤ size → length list ≤ most_boundaries
-    → table_at 0 (list ++ drop (length list) (replicate size 0)) ≡ table_of (λ j. get_or list j 0) (length list) most_boundaries 0
-unfolding padded
-copied_table list size room short =
-    let n = length list in
-    let rest = most_boundaries - n in
-    let e : most_boundaries ≡ n + rest = omega arith in
-    ap (λ (m : ℕ). take m (list ++ drop n (replicate size 0))) e ∙ take-append-add list (drop n (replicate size 0)) rest
-    ∙ ap (λ (ys : List ℕ). list ++ ys) (ap (take rest) (drop_replicate n size 0) ∙ take_replicate rest (size - n) 0 (omega arith))
-    ∙ ap (λ (xs : List ℕ). padded xs most_boundaries 0) (sym (listed_entries list))
 
 -- A list of m tables of which k are laid, while the others hold the spare value only.
 pub record Laying {A : Type 0} (spare : A) (m : ℕ) (table : ℕ → List A) (k : ℕ) (l : List A) : Type 0 where

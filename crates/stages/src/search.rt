@@ -51,7 +51,8 @@ pub fn lay_search(placed: &PlacedAnchors, bounds: &[u32], words: &mut [u32])
     ensures { Lays placed.now.frames placed.now.rows placed.now.places bounds.now words.new }
 {
     words.fill(0);
-    words[..bounds.len()].copy_from_slice(bounds);
+    // Entry by entry: `copy_from_slice` becomes a call of memmove here, which the archive does not ask of its callers.
+    write_each(&mut words[0..LOW], bounds.len(), |j| bounds[j]);
     lay_ranges(&placed.frames, &placed.places, bounds, &mut words[LOW..ROW]);
     write_each(
         &mut words[ROW..SPAN_START],

@@ -12,7 +12,7 @@ use Rattle.stages.proofs.search.lay_search.Goals as goal
 pub lay_ranges-requires : goal.lay_ranges-requires
 lay_ranges-requires c =
     let cleared : c.fill.new.self ≡ replicate words_long 0 = c.fill.ensures.after (λ y same. same) ∙ ap (λ (n : ℕ). replicate n 0) c.requires.3 in
-    let fresh = bounds_fresh c.args.bounds.now _ _ c.requires.2.short cleared c.copy_from_slice.ensures.after in
+    let fresh = bounds_fresh c.args.bounds.now _ _ c.requires.2.short cleared (c.write_each.ensures (entry_of c.args.bounds.now) (λ j x below made. search rules)) in
     (c.requires.0, c.requires.2, fresh.rest lows_at origins_long (omega arith) (omega arith))
 
 pub lay_counts-requires : goal.lay_counts-requires
@@ -20,8 +20,8 @@ lay_counts-requires c =
     let row = λ (j : ℕ). entry_before c.args.placed.now.rows (entry_of c.args.placed.now.places j) in
     let cleared : c.fill.new.self ≡ replicate words_long 0 = c.fill.ensures.after (λ y same. same) ∙ ap (λ (n : ℕ). replicate n 0) c.requires.3 in
     let laid =
-    rows_laid c.args.bounds.now _ _ _ row _ c.requires.2.short cleared c.copy_from_slice.ensures.after c.lay_ranges.ensures.whole
-    (c.write_each.ensures row (λ j x below made. search rules)) in
+    rows_laid c.args.bounds.now _ _ _ row _ c.requires.2.short cleared (c.write_each.ensures (entry_of c.args.bounds.now) (λ j x below made. search rules)) c.lay_ranges.ensures.whole
+    (c.write_each-2.ensures row (λ j x below made. search rules)) in
     let ends = ranged_ends c.requires.2.short c.lay_ranges.ensures in (
       rw (laid.tables lows_in (omega arith), laid.tables middles_in (omega arith)) ends.0,
       rw (laid.tables lows_in (omega arith), laid.tables highs_in (omega arith)) ends.1,
@@ -35,8 +35,8 @@ returns c =
     let row = λ (j : ℕ). entry_before c.args.placed.now.rows (entry_of c.args.placed.now.places j) in
     let cleared : c.fill.new.self ≡ replicate words_long 0 = c.fill.ensures.after (λ y same. same) ∙ ap (λ (n : ℕ). replicate n 0) c.requires.3 in
     let laid =
-    rows_laid c.args.bounds.now _ _ _ row _ c.requires.2.short cleared c.copy_from_slice.ensures.after c.lay_ranges.ensures.whole
-    (c.write_each.ensures row (λ j x below made. search rules)) in
+    rows_laid c.args.bounds.now _ _ _ row _ c.requires.2.short cleared (c.write_each.ensures (entry_of c.args.bounds.now) (λ j x below made. search rules)) c.lay_ranges.ensures.whole
+    (c.write_each-2.ensures row (λ j x below made. search rules)) in
     let is = c.lay_counts.ensures in record {
       bounded = counted_before _ n laid.long is bounds_at most_boundaries (omega arith) ∙ laid.bounded;
       ranged = rw (counted_before _ n laid.long is lows_at origins_long (omega arith), laid.ranged) c.lay_ranges.ensures;
