@@ -45,7 +45,8 @@ fn check_trailer(bytes: &[u8]) -> Result<Layout, Refusal>
     Ok(laid_out(end, trailer))
 }
 
-// Refusals 5 to 10, by what the sections hold.
+// Refusals 5 to 10, by what the sections hold. What `within` asks is asked by `bad_track` and `bad_cost` only; a struct that knows it would be
+// made here, for those two calls, and be longer than the clauses that it spares.
 fn check_contents(bytes: &[u8], at: Layout) -> Result<(), Refusal>
     requires at_value { at ≡ layout_of bytes.now }
     requires within { Within (length bytes.now) at }

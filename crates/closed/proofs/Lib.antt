@@ -6,7 +6,6 @@ pub mod Reaching
 pub mod Chosen
 pub mod AllRows
 pub mod Restored
-pub mod Lists
 pub mod Staged
 pub mod Answers
 pub mod InOrder

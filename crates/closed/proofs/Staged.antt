@@ -31,7 +31,8 @@ use Rattle.limits.specs.Capacity.{most_boundaries}
 use Rattle.stages.specs.Tables.{Tabled, tables_in}
 use Rattle.rows.specs.Reads.{score_rows}
 use Rattle.closed.specs.Asked.{CandidateIn, columns_of, asked_of, Agrees, cells_for, Unused, SearchInputs}
-use Rattle.closed.specs.Answered.{StageLists}
+use Rattle.stages.specs.declared.stage_tables.StageTables.{StageTables}
+use Rattle.closed.specs.Answered.{HoldsStage}
 use Rattle.closed.proofs.Bridge.{agrees, readable}
 
 -- what the tables of a stage are read by
@@ -96,36 +97,35 @@ module _ {bytes : List ℕ} {at : Layout} {costs : Costs} {candidate : ℕ} (giv
         kept_in_le phrase.mask phrase.nuclei.first_row phrase.nuclei.anchors,
       )
 
-  module _ (pass : Pass) {strictness : Strictness} {n : ℕ} {words : List ℕ} {figures : List Float}
-      (lent : StageLists (phrase_of bytes) (pass_stage (phrase_of bytes) pass) words figures)
+  module _ (pass : Pass) {strictness : Strictness} {n : ℕ} (tables : StageTables)
+      (lent : HoldsStage (phrase_of bytes) (pass_stage (phrase_of bytes) pass) tables)
       (held : strictness ≡ pass_strictness pass) (counted : n ≡ of_pass at.boundaries.count at.added_boundaries.count pass) where
     abbrev stage : Stage
     stage = pass_stage (phrase_of bytes) pass
 
-    tabled : Tabled (phrase_of bytes) stage (tables_in n words figures)
+    tabled : Tabled (phrase_of bytes) stage (tables_in n tables.words tables.figures)
     tabled =
-        subst (λ (m : ℕ). Tabled (phrase_of bytes) stage (tables_in m words figures)) (pass_count given.laid pass ∙ sym counted)
-        lent.tabled
+        subst (λ (m : ℕ). Tabled (phrase_of bytes) stage (tables_in m tables.words tables.figures)) (pass_count given.laid pass ∙ sym counted)
+        lent
 
     -- the tables are those of the pass's problem
-    pub pass_agrees : Agrees (asked_of bytes candidate strictness n words figures)
+    pub pass_agrees : Agrees (asked_of bytes candidate strictness n tables)
         (pass_problem (phrase_of bytes) pass (columns_of bytes candidate))
     pass_agrees =
         let f = stage_fits pass in
-        subst⁻¹ (λ (x : Strictness). Agrees (asked_of bytes candidate x n words figures)
+        subst⁻¹ (λ (x : Strictness). Agrees (asked_of bytes candidate x n tables)
         (pass_problem (phrase_of bytes) pass (columns_of bytes candidate))) held
-        (agrees (phrase_of bytes) stage (tables_in n words figures) tabled f.anchors_up f.bounds_up f.few (pass_strictness pass)
+        (agrees (phrase_of bytes) stage (tables_in n tables.words tables.figures) tabled f.anchors_up f.bounds_up f.few (pass_strictness pass)
         (columns_of bytes candidate))
 
     pub pass_inputs :
         {best : List Float} {back : List ℕ} → has_nucleus (phrase_of bytes) ≡ true → Unused best back (work_cells (limits_of bytes)) →
-        SearchInputs bytes at costs candidate strictness n words figures best back
+        SearchInputs bytes at costs candidate strictness n tables best back
     pass_inputs voiced unused = record {
       given = given;
-      lent = lent.whole;
       readable =
           let f = stage_fits pass in
-          readable (phrase_of bytes) stage (tables_in n words figures) tabled f.anchors_up f.bounds_up f.few strictness
+          readable (phrase_of bytes) stage (tables_in n tables.words tables.figures) tabled f.anchors_up f.bounds_up f.few strictness
           (score_rows (phrase_of bytes)) (some_row voiced) (rows_within pass);
       some = (pass_problem (phrase_of bytes) pass (columns_of bytes candidate), pass_agrees);
       unused = record {
@@ -138,5 +138,5 @@ module _ {bytes : List ℕ} {at : Layout} {costs : Costs} {candidate : ℕ} (giv
         few : suc (length (columns_of bytes candidate)) ≤ suc (limits_of bytes).units
         few = omega (arith, ((fit given.laid).candidates candidate (record { id = 0; columns = [] }) given.listed).few_units)
 
-        cells : cells_for (asked_of bytes candidate strictness n words figures) ≤ work_cells (limits_of bytes)
+        cells : cells_for (asked_of bytes candidate strictness n tables) ≤ work_cells (limits_of bytes)
         cells = mul-le-mul {m₂ = (limits_of bytes).boundaries} few (omega (arith, tabled.sized, (stage_fits pass).allowed))

@@ -1,5 +1,6 @@
 -- What the search through the passes answers for a candidate, as the code's result says it.
-use Rattle.std.specs.Prelude.{ℕ, true, false, List, ◌≡◌, Float, Option, Some, None, Result, Ok, Err, IsOkAnd, length}
+use Rattle.std.specs.Prelude.{ℕ, true, false, List, ◌≡◌, Option, Some, None, Result, Ok, Err, IsOkAnd, length}
+use Rattle.std.specs.Borrow.{Bor}
 use Rattle.phrase.specs.Phrase.{Phrase, Stage}
 use Rattle.paths.specs.declared.passes.Pass.{Pass}
 use Rattle.paths.specs.declared.passes.Pass.TheVariants.{CountStrict, CountRelaxed}
@@ -10,8 +11,7 @@ use Rattle.paths.specs.Demand.{found, none, unvoiced, answer_number, Answer as D
 use Rattle.paths.specs.Search.{or_else}
 use Rattle.stages.specs.Tables.{Tabled, tables_in}
 use Rattle.rows.specs.Traced.{UnitsAre}
-use Rattle.rows.specs.Reads.{WholeLists}
-use Rattle.rows.specs.declared.tables.Tables.{Tables}
+use Rattle.stages.specs.declared.stage_tables.StageTables.{StageTables}
 use Rattle.closed.specs.declared.path.Path.{Path}
 use Rattle.closed.specs.declared.search.Found.{Found}
 use Rattle.closed.specs.declared.search.Missed.{Missed}
@@ -53,19 +53,12 @@ pub record RunsOf (phrase : Phrase) (runs : Runs) : Type 0 where
   pub spoken : runs.spoken ≡ speaks phrase.speech
   pub voiced : runs.voiced ≡ has_nucleus phrase
 
--- Lent lists that hold the tables of a stage.
-pub record StageLists (phrase : Phrase) (stage : Stage) (words : List ℕ) (figures : List Float) : Type 0 where
-  pub whole : WholeLists words figures
-  pub tabled : Tabled phrase stage (tables_in (length stage.boundaries) words figures)
-
--- What holds of two lent lists and their stage holds of those of the nuclei's stage and, where there is one, of those of the added stage.
-pub record ForBothStages (Holds : Stage → List ℕ → List Float → Type 0) (phrase : Phrase) (words : List ℕ) (figures : List Float)
-    (added_words : List ℕ) (added_figures : List Float) : Type 0 where
-  pub nuclei : Holds phrase.nuclei words figures
-  pub added : non_empty phrase.added.anchors ≡ true → Holds phrase.added added_words added_figures
+-- The code's struct holds the tables of a stage.
+abbrev pub HoldsStage : Phrase → Stage → StageTables → Type 0
+HoldsStage phrase stage held = Tabled phrase stage (tables_in (length stage.boundaries) held.words held.figures)
 
 -- The tables of the added stage are there exactly where the phrase has one.
-abbrev pub AddedLists : Phrase → Option Tables → Type 0
-AddedLists phrase None = non_empty phrase.added.anchors ≡ false
-AddedLists phrase (Some tables) =
-    (non_empty phrase.added.anchors ≡ true) × StageLists phrase phrase.added tables.words.now tables.figures.now
+abbrev pub HoldsAdded : Phrase → Option (Bor StageTables) → Type 0
+HoldsAdded phrase None = non_empty phrase.added.anchors ≡ false
+HoldsAdded phrase (Some tables) =
+    (non_empty phrase.added.anchors ≡ true) × HoldsStage phrase phrase.added tables.now

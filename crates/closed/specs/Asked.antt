@@ -10,8 +10,9 @@ use Rattle.record.specs.Inner.Accepted.{Laid}
 use Rattle.record.specs.Meaning.{phrase_of}
 use Rattle.record.specs.Inner.Reading.{candidate_of}
 use Rattle.stages.specs.Tables.{StageTables, tables_in}
+use Rattle.stages.specs.declared.stage_tables.StageTables.{StageTables as HeldTables}
 use Rattle.rows.specs.Rows.{StartsOf, GapsOf, Row, Same, first, unfilled}
-use Rattle.rows.specs.Reads.{WholeLists, score_rows}
+use Rattle.rows.specs.Reads.{score_rows}
 use Rattle.rows.specs.Units.{UnitsOf}
 use Rattle.rows.specs.Ends.{StopsOf}
 use Rattle.closed.specs.declared.path.Path.{Path}
@@ -34,10 +35,10 @@ pub record Asked : Type 0 where
   pub strictness : Strictness
   pub tables : StageTables
 
--- that for a candidate of a record, over the lent tables of n boundaries
-abbrev pub asked_of : List ℕ → ℕ → Strictness → ℕ → List ℕ → List Float → Asked
-asked_of bytes candidate strictness n words figures =
-    record { phrase = phrase_of bytes; columns = columns_of bytes candidate; strictness = strictness; tables = tables_in n words figures }
+-- that for a candidate of a record, over the held tables of n boundaries
+abbrev pub asked_of : List ℕ → ℕ → Strictness → ℕ → HeldTables → Asked
+asked_of bytes candidate strictness n held =
+    record { phrase = phrase_of bytes; columns = columns_of bytes candidate; strictness = strictness; tables = tables_in n held.words held.figures }
 
 -- A problem whose figures are those of the tables and, for each of the columns, the phrase's scores.
 pub record Agrees (asked : Asked) (q : Problem) : Type 0 where
@@ -60,15 +61,13 @@ pub record Unused (best : List Float) (back : List ℕ) (cells : ℕ) : Type 0 w
   pub marks : cells ≤ length back
   pub zero : Row best back first cells unfilled
 
--- What one search is called with: a candidate of an accepted record, whole lists whose tables can be read and are those of some problem,
--- and unused cells.
-pub record SearchInputs (bytes : List ℕ) (at : Layout) (costs : Costs) (candidate : ℕ) (strictness : Strictness) (n : ℕ) (words : List ℕ)
-    (figures best : List Float) (back : List ℕ) : Type 0 where
+-- What one search is called with: a candidate of an accepted record, tables that can be read and are those of some problem, and unused cells.
+pub record SearchInputs (bytes : List ℕ) (at : Layout) (costs : Costs) (candidate : ℕ) (strictness : Strictness) (n : ℕ) (held : HeldTables)
+    (best : List Float) (back : List ℕ) : Type 0 where
   pub given : CandidateIn bytes at costs candidate
-  pub lent : WholeLists words figures
-  pub readable : ReadableTables (tables_in n words figures) strictness (score_rows (phrase_of bytes))
-  pub some : (q : Problem) × Agrees (asked_of bytes candidate strictness n words figures) q
-  pub unused : Unused best back (cells_for (asked_of bytes candidate strictness n words figures))
+  pub readable : ReadableTables (tables_in n held.words held.figures) strictness (score_rows (phrase_of bytes))
+  pub some : (q : Problem) × Agrees (asked_of bytes candidate strictness n held) q
+  pub unused : Unused best back (cells_for (asked_of bytes candidate strictness n held))
 
 -- The rows of every count are filled, and all cells beyond them are as they were.
 pub record RowsFilled (asked : Asked) (best : List Float) (back : List ℕ) (best' : List Float) (back' : List ℕ) : Type 0 where

@@ -8,9 +8,7 @@ use crate::fill::fill_next;
 use crate::path::{Path, finish};
 use crate::task::StageTask;
 use rows::inputs::RowInputs;
-use rows::reached::first_reached;
 use rows::starts::fill_starts;
-use stages::lists::{DURATION, STOP};
 
 // The rows of no units and of every count up to the candidate's k, over the lent tables of a stage.
 pub fn fill_rows(best: &mut [f64], back: &mut [u32], stage: &StageTask, k: usize)
@@ -19,7 +17,7 @@ pub fn fill_rows(best: &mut [f64], back: &mut [u32], stage: &StageTask, k: usize
     ensures { RowsFilled (asked_by stage.now) best.old back.old best.new back.new }
 {
     let task = stage.task;
-    fill_starts(best, back, stage.tables, stage.n);
+    fill_starts(best, back, &stage.tables.figures.filler, stage.n);
     for s in 0..k {
         let unit = task.accepted.column(task.candidate, s);
         let inputs = RowInputs {
@@ -43,12 +41,12 @@ pub fn best_path(best: &mut [f64], back: &mut [u32], stage: &StageTask) -> Optio
 {
     let task = stage.task;
     let k = task.accepted.units(task.candidate);
-    let since = first_reached(stage.tables.words, stage.strictness, k);
+    let since = stage.tables.words.since.at(stage.strictness, k);
     if since >= stage.n {
         return None;
     }
     fill_rows(best, back, stage, k);
-    let stop = &stage.tables.figures[STOP..DURATION];
+    let stop = &stage.tables.figures.filler.stop;
     let path = finish(best, back, stop, stage.n, k, since);
     Some(path)
 }

@@ -1,19 +1,19 @@
 // The search through the passes, after `search` of closed.rs.
 
 ghost use Rattle.std.specs.Prelude.{true, ◌≡◌};
-ghost use Rattle.paths.specs.Passes.{pass_stage, pass_strictness, has_nucleus};
+ghost use Rattle.paths.specs.Passes.{pass_stage, has_nucleus};
 ghost use Rattle.paths.specs.Search.{chosen};
 ghost use Rattle.limits.specs.Sizes.{work_cells};
 ghost use Rattle.record.specs.Layout.{limits_of};
 ghost use Rattle.record.specs.Meaning.{phrase_of};
-ghost use Rattle.closed.specs.Answered.{Says, missed_word, answer_in, pass_answer, added_answer, RunsOf, StageLists, AddedLists};
+ghost use Rattle.closed.specs.Answered.{Says, missed_word, answer_in, pass_answer, added_answer, RunsOf, HoldsStage, HoldsAdded};
 ghost use Rattle.closed.specs.Asked.{columns_of, Unused};
 
 use crate::best_path::best_path;
 use crate::path::Path;
 use crate::task::{StageTask, Task};
 use paths::passes::{Pass, Strictness};
-use rows::tables::Tables;
+use stages::stage_tables::StageTables;
 
 // The pass that finds a path, and the path; its units' boundaries are those of the stage of that pass.
 #[derive(Clone, Copy)]
@@ -48,17 +48,6 @@ pub struct Runs {
     pub voiced: bool,
 }
 
-fn strictness_of(pass: Pass) -> Strictness
-    ensures { result ≡ pass_strictness pass }
-{
-    match pass {
-        Pass::NucleiStrict => Strictness::Strict,
-        Pass::CountStrict => Strictness::Strict,
-        Pass::CountRelaxed => Strictness::Relaxed,
-        Pass::NucleiRelaxed => Strictness::Relaxed,
-    }
-}
-
 // What a pass says of the path that it found, or did not find.
 fn answer_in(pass: Pass, found: Option<Path>) -> Result<Found, Missed>
     ensures { result ≡ answer_in pass found }
@@ -69,17 +58,17 @@ fn answer_in(pass: Pass, found: Option<Path>) -> Result<Found, Missed>
     }
 }
 
-// One pass, over the tables of its stage.
+// One pass, over the tables of its stage. That the work areas are unused is asked here and by both searches below: a struct that knew it
+// would hold two `&mut`, and be taken apart at every call, since the C interface lends the areas as two slices.
 pub fn attempt(
     best: &mut [f64],
     back: &mut [u32],
     task: &Task,
-    tables: Tables,
+    tables: &StageTables,
     pass: Pass,
 ) -> Result<Found, Missed>
     requires nucleus { has_nucleus (phrase_of task.now.accepted.bytes.now) ≡ true }
-    requires stage_lists { StageLists (phrase_of task.now.accepted.bytes.now) (pass_stage (phrase_of task.now.accepted.bytes.now) pass) tables.words.now
-        tables.figures.now }
+    requires stage_lists { HoldsStage (phrase_of task.now.accepted.bytes.now) (pass_stage (phrase_of task.now.accepted.bytes.now) pass) tables.now }
     requires unused { Unused best.old back.old (work_cells (limits_of task.now.accepted.bytes.now)) }
     ensures says { Says (pass_answer (phrase_of task.now.accepted.bytes.now) pass (columns_of task.now.accepted.bytes.now task.now.candidate)) result }
     ensures best_unchanged { (best.new ≡ best.old) × (back.new ≡ back.old) }
@@ -89,7 +78,7 @@ pub fn attempt(
         task: *task,
         tables,
         n: pass.pick(at.boundaries.count, at.added_boundaries.count),
-        strictness: strictness_of(pass),
+        strictness: Strictness::from(pass),
     };
     answer_in(pass, best_path(best, back, &stage))
 }
@@ -99,15 +88,16 @@ fn search_added(
     best: &mut [f64],
     back: &mut [u32],
     task: &Task,
-    tables: Tables,
+    tables: &StageTables,
 ) -> Result<Found, Missed>
     requires nucleus { has_nucleus (phrase_of task.now.accepted.bytes.now) ≡ true }
-    requires stage_lists { StageLists (phrase_of task.now.accepted.bytes.now) (phrase_of task.now.accepted.bytes.now).added tables.words.now
-        tables.figures.now }
+    requires stage_lists { HoldsStage (phrase_of task.now.accepted.bytes.now) (phrase_of task.now.accepted.bytes.now).added tables.now }
     requires unused { Unused best.old back.old (work_cells (limits_of task.now.accepted.bytes.now)) }
     ensures says { Says (added_answer (phrase_of task.now.accepted.bytes.now) (columns_of task.now.accepted.bytes.now task.now.candidate)) result }
     ensures best_unchanged { (best.new ≡ best.old) × (back.new ≡ back.old) }
 {
+    // Not `or_else`: where its closure is not called, nothing is known any more of `best` and `back`, which it borrows, and the proof that
+    // they end as they came did not close.
     match attempt(best, back, task, tables, Pass::CountStrict) {
         Ok(found) => Ok(found),
         Err(_) => attempt(best, back, task, tables, Pass::CountRelaxed),
@@ -120,14 +110,13 @@ pub fn search(
     best: &mut [f64],
     back: &mut [u32],
     task: &Task,
-    nuclei: Tables,
-    added: Option<Tables>,
+    nuclei: &StageTables,
+    added: Option<&StageTables>,
     runs: Runs,
 ) -> Result<Found, Missed>
     requires runs_of { RunsOf (phrase_of task.now.accepted.bytes.now) runs }
-    requires nuclei_lists { StageLists (phrase_of task.now.accepted.bytes.now) (phrase_of task.now.accepted.bytes.now).nuclei nuclei.words.now
-        nuclei.figures.now }
-    requires added_lists { AddedLists (phrase_of task.now.accepted.bytes.now) added }
+    requires nuclei_lists { HoldsStage (phrase_of task.now.accepted.bytes.now) (phrase_of task.now.accepted.bytes.now).nuclei nuclei.now }
+    requires added_lists { HoldsAdded (phrase_of task.now.accepted.bytes.now) added }
     requires unused { Unused best.old back.old (work_cells (limits_of task.now.accepted.bytes.now)) }
     ensures says { Says (chosen (phrase_of task.now.accepted.bytes.now) (columns_of task.now.accepted.bytes.now task.now.candidate)) result }
     ensures best_unchanged { (best.new ≡ best.old) × (back.new ≡ back.old) }
@@ -138,6 +127,7 @@ pub fn search(
     if !runs.spoken {
         return Err(Missed::NoPath);
     }
+    // Not `or_else`, for the same reason.
     match attempt(best, back, task, nuclei, Pass::NucleiStrict) {
         Ok(first) => Ok(first),
         Err(_) => match added {

@@ -5,7 +5,7 @@ ghost use Rattle.closed.specs.Asked.{CandidateIn};
 use paths::passes::Strictness;
 use phrase::costs::Costs;
 use reading::accepted::AcceptedRecord;
-use rows::tables::Tables;
+use stages::stage_tables::StageTables;
 
 // A candidate of an accepted record, with the record's cost figures.
 #[derive(Clone, Copy)]
@@ -20,7 +20,7 @@ pub struct Task<'a> {
 #[derive(Clone, Copy)]
 pub struct StageTask<'a> {
     pub task: Task<'a>,
-    pub tables: Tables<'a>,
+    pub tables: &'a StageTables,
     pub n: usize,
     pub strictness: Strictness,
 }

@@ -6,7 +6,6 @@ use mathlib.Core.Path.{◌≡◌, refl, sym, ap, subst, ◌∙◌}
 use native.Mathlib.Omega.{arith}
 use borrow.Author.Tests.{eq-eqb, ne_eqb}
 use lib.Dec.{eqb}
-use lib.Ieee.{Float}
 use lib.ListN.{length}
 use Rattle.laws.proofs.Listed.{length_listed}
 use Rattle.phrase.specs.Phrase.{Phrase, Stage}
@@ -14,6 +13,7 @@ use Rattle.paths.specs.Anchors.{kept_in}
 use Rattle.std.specs.Prelude.{Option, Some, None}
 use Rattle.std.specs.Option.{is_some, ForSome}
 use Rattle.std.specs.Bool.{then_some}
+use Rattle.std.specs.Borrow.{Bor}
 use Rattle.paths.specs.Passes.{speaks, non_empty, has_nucleus}
 use Rattle.record.specs.Meaning.{phrase_of}
 use Rattle.record.specs.Inner.Accepted.{Laid}
@@ -22,8 +22,8 @@ use Rattle.record.specs.declared.layout.Layout.{Layout}
 use Rattle.record.specs.declared.read.Edges.{Edges}
 use Rattle.record.specs.declared.read.Which.TheVariants.{Count}
 use Rattle.record.proofs.Reading.{nuclei_first, anchors_are}
-use Rattle.rows.specs.declared.tables.Tables.{Tables}
-use Rattle.closed.specs.Answered.{StageLists, AddedLists}
+use Rattle.stages.specs.declared.stage_tables.StageTables.{StageTables}
+use Rattle.closed.specs.Answered.{HoldsStage, HoldsAdded}
 use Rattle.prepare.specs.Sides.{Prepared}
 use Rattle.decode.specs.declared.plan.Plan.{Plan}
 use Rattle.decoding.specs.Report.{low_edge, high_edge}
@@ -64,31 +64,28 @@ module _ {bytes : List ℕ} {at : Layout} (h : Laid bytes at) where
   runs_voiced masked inserted i = non_empty (kept_in (masked i) (sym (nuclei_first bytes) i) (inserted i))
 
 -- by the edges looked up
-pub prepared_by : {phrase : Phrase} {plan : Plan} {stage : Stage} {words : List ℕ} {figures : List Float} → PlanOf phrase plan
-    → Prepared phrase stage plan.lo_edge plan.hi_edge words figures
-    → Prepared phrase stage (low_edge phrase.speech) (high_edge phrase.speech) words figures
-prepared_by {phrase} {stage = stage} {words = words} {figures = figures} planned prepared =
-    coe 0 1 (i. Prepared phrase stage (planned.low i) (planned.high i) words figures) prepared
+pub prepared_by : {phrase : Phrase} {plan : Plan} {stage : Stage} {tables : StageTables} → PlanOf phrase plan
+    → Prepared phrase stage plan.edges.start plan.edges.end tables
+    → Prepared phrase stage (low_edge phrase.speech) (high_edge phrase.speech) tables
+prepared_by {phrase} {stage = stage} {tables = tables} planned prepared =
+    coe 0 1 (i. Prepared phrase stage (planned.low i) (planned.high i) tables) prepared
 
 -- prepared tables of a stage are its tables
-pub stage_lists : {phrase : Phrase} {stage : Stage} (tables : Tables) → PreparedTables phrase stage tables
-    → StageLists phrase stage tables.words.now tables.figures.now
-stage_lists tables prepared = record {
-  whole = record { worded = prepared.worded; figured = prepared.figured };
-  tabled = prepared.tables.tabled;
-}
+pub stage_lists : {phrase : Phrase} {stage : Stage} (tables : Bor StageTables) → PreparedTables phrase stage tables
+    → HoldsStage phrase stage tables.now
+stage_lists tables prepared = prepared.tables.tabled
 
-pub added_lists : {phrase : Phrase} (added : Option Tables) → is_some added ≡ non_empty phrase.added.anchors
-    → ForSome added (PreparedTables phrase phrase.added) → AddedLists phrase added
+pub added_lists : {phrase : Phrase} (added : Option (Bor StageTables)) → is_some added ≡ non_empty phrase.added.anchors
+    → ForSome added (PreparedTables phrase phrase.added) → HoldsAdded phrase added
 added_lists None there prepared = sym there
 added_lists (Some tables) there prepared = (sym there, stage_lists tables (prepared tables refl))
 
 -- the tables of the added stage, where there are added anchors
-some_then : (b : Bool) (tables : Tables) → is_some (then_some b tables) ≡ b
+some_then : (b : Bool) (tables : Bor StageTables) → is_some (then_some b tables) ≡ b
 some_then true tables = refl
 some_then false tables = refl
 
-module _ {bytes : List ℕ} {at : Layout} (h : Laid bytes at) {added : Option Tables} (tables : Tables)
+module _ {bytes : List ℕ} {at : Layout} (h : Laid bytes at) {added : Option (Bor StageTables)} (tables : Bor StageTables)
     (chosen : added ≡ then_some (not (eqb at.added_anchors.count 0)) tables) where
   pub added_there : is_some added ≡ non_empty (phrase_of bytes).added.anchors
   added_there = ap is_some chosen ∙ some_then _ tables ∙ runs_added h

@@ -1,14 +1,11 @@
 -- From the units that the code places and clips to those that are to be reported.
-use Prim.Native.Nat.{ℕ, suc, ◌+◌, ◌≤◌, ◌<◌}
+use Prim.Native.Nat.{ℕ, suc, ◌≤◌, ◌<◌}
 use mathlib.Core.Bool.{cond}
 use mathlib.Core.List.{List, [], ◌∷◌, map, map-map, zip_with}
-use mathlib.Core.Path.{◌≡◌, refl, sym, ap, ap₂, ◌∙◌}
-use native.Mathlib.Nat.{zero-add}
+use mathlib.Core.Path.{◌≡◌, refl, ap, ap₂, ◌∙◌}
 use native.Mathlib.Omega.{arith}
 use lib.Dec.{ltb}
-use lib.Ieee.{Float}
-use lib.ListN.{length, get_or, drop, length-map, get_or-map}
-use lib.Seq.{get_or-take, get_or-drop}
+use lib.ListN.{length, get_or, length-map, get_or-map}
 use Rattle.std.specs.Prelude.{Option, Some, None, unwrap_or}
 use Rattle.laws.proofs.Listed.{table_at_law}
 use Rattle.phrase.specs.Phrase.{Phrase, Stage}
@@ -19,7 +16,8 @@ use Rattle.paths.specs.declared.passes.Strictness.TheVariants.{Strict}
 use Rattle.paths.specs.Path.{Bounds}
 use Rattle.limits.specs.Capacity.{most_boundaries}
 use Rattle.limits.specs.Common.{absent}
-use Rattle.stages.specs.Lists.{bounds_at, middles_at, rows_at, span_starts_at, span_ends_at, table_at}
+use Rattle.stages.specs.declared.stage_tables.StageTables.{StageTables as HeldTables}
+use Rattle.stages.specs.Search.{no_span}
 use Rattle.stages.specs.Tables.{StageTables, Tabled, tables_in}
 use Rattle.rows.specs.declared.trace.Bounds.{Bounds as HeldBounds}
 use Rattle.rows.specs.Traced.{held_bounds, no_bounds as no_held}
@@ -73,22 +71,17 @@ same_map f g same (x ∷ xs) = ap₂ (λ y ys. y ∷ ys) (same x) (same_map f g 
 -- ---- the units of a path through a stage
 
 -- what is known of a stage's words and a path's units
-pub record Found (phrase : Phrase) (stage : Stage) (strictness : Strictness) (words : List ℕ) (bs : List Bounds) : Type 0 where
-  pub figures : List Float
-  pub prepared : Prepared phrase stage (low_edge phrase.speech) (high_edge phrase.speech) words figures
+pub record Found (phrase : Phrase) (stage : Stage) (strictness : Strictness) (tables : HeldTables) (bs : List Bounds) : Type 0 where
+  pub prepared : Prepared phrase stage (low_edge phrase.speech) (high_edge phrase.speech) tables
   pub few_boundaries : length stage.boundaries ≤ most_boundaries
   pub up : Increasing stage.anchors
   pub bounds_up : Increasing stage.boundaries
   pub ok : (i : ℕ) → i < length bs → UnitOk phrase stage strictness (get_or bs i no_bounds)
 
--- an entry of the table at a place of a list
-entry_of : (at : ℕ) (words : List ℕ) (i : ℕ) → i < most_boundaries → get_or (table_at at words) i 0 ≡ get_or words (at + i) 0
-entry_of at words i below = get_or-take most_boundaries (drop at words) i 0 below ∙ get_or-drop at words i 0
-
-module _ {phrase : Phrase} {stage : Stage} {strictness : Strictness} {words : List ℕ} {bs : List Bounds}
-    (f : Found phrase stage strictness words bs) where
+module _ {phrase : Phrase} {stage : Stage} {strictness : Strictness} {tables : HeldTables} {bs : List Bounds}
+    (f : Found phrase stage strictness tables bs) where
   abbrev t : StageTables
-  t = tables_in (length stage.boundaries) words f.figures
+  t = tables_in (length stage.boundaries) tables.words tables.figures
 
   abbrev tabled : Tabled phrase stage t
   tabled = f.prepared.tables.tabled
@@ -102,9 +95,8 @@ module _ {phrase : Phrase} {stage : Stage} {strictness : Strictness} {words : Li
   held_at : (i : ℕ) → get_or (map held_bounds bs) i no_held ≡ held_bounds (unit i)
   held_at i = get_or-map held_bounds bs i no_bounds
 
-  pub placeable : Placeable words (map held_bounds bs)
+  pub placeable : Placeable (map held_bounds bs)
   placeable = record {
-    worded = f.prepared.worded;
     begins = λ i h.
         let below : i < length bs = omega (arith, length-map bs held_bounds) in
         omega (arith, ap (λ (b : HeldBounds). b.first) (held_at i), (f.ok i below).forward, in_tables i below, f.few_boundaries);
@@ -113,37 +105,31 @@ module _ {phrase : Phrase} {stage : Stage} {strictness : Strictness} {words : Li
         omega (arith, ap (λ (b : HeldBounds). b.last) (held_at i), in_tables i below, f.few_boundaries);
   }
 
-  -- an entry for boundary j, from a table of the words
-  looked_up : (at j : ℕ) {x : ℕ} → j < length stage.boundaries → get_or (table_at at words) j 0 ≡ x → get_or words (at + j) 0 ≡ x
-  looked_up at j below is = sym (entry_of at words j (omega (arith, f.few_boundaries))) ∙ is
-
-  bound_at : (j : ℕ) {x : ℕ} → j < length stage.boundaries → get_or (table_at bounds_at words) j 0 ≡ x → get_or words j 0 ≡ x
-  bound_at j below is = ap (λ (m : ℕ). get_or words m 0) (sym (zero-add j)) ∙ looked_up bounds_at j below is
-
-  place_is : (i : ℕ) → i < length bs → place_of words (held_bounds (unit i)) ≡ place_in phrase stage (unit i)
+  place_is : (i : ℕ) → i < length bs → place_of tables.words (held_bounds (unit i)) ≡ place_in phrase stage (unit i)
   unfolding place_of
   place_is i h =
       let inside : (unit i).last < length stage.boundaries = in_tables i h in
       let before : (unit i).first < length stage.boundaries = omega (arith, (f.ok i h).forward) in
-      let from = bound_at _ before (tabled.bounded _ before) in
-      let to = bound_at _ inside (tabled.bounded _ inside) in
-      let middle = looked_up middles_at _ inside (tabled.ends Strict _ inside) in
-      let row = looked_up rows_at _ inside (tabled.rows _ inside) in
-      let start = looked_up span_starts_at _ inside (ap (λ (l : List ℕ). get_or l (unit i).last 0) f.prepared.starts ∙ table_at_law _ (length stage.boundaries) most_boundaries 0 0 _ inside) in
-      let end = looked_up span_ends_at _ inside (ap (λ (l : List ℕ). get_or l (unit i).last 0) f.prepared.ends ∙ table_at_law _ (length stage.boundaries) most_boundaries 0 0 _ inside) in
-      (λ x. cond (ltb (unit i).first (middle x)) (record { span = record { start = start x; end = end x }; row = Some (row x) })
+      let from = tabled.bounded _ before in
+      let to = tabled.bounded _ inside in
+      let middle = tabled.ends Strict _ inside in
+      let row = tabled.rows _ inside in
+      let span =
+      ap (λ (l : List Span). get_or l (unit i).last no_span) f.prepared.spans
+      ∙ table_at_law _ (length stage.boundaries) most_boundaries no_span no_span _ inside in
+      (λ x. cond (ltb (unit i).first (middle x)) (record { span = span x; row = Some (row x) })
       (record { span = record { start = from x; end = to x }; row = None }))
       ∙ placed_by_tables phrase stage f.up f.bounds_up (f.ok i h)
 
-  placed_is : map (place_of words) (map held_bounds bs) ≡ map (place_in phrase stage) bs
-  placed_is = map-map (place_of words) held_bounds bs ∙ same_at (λ b. place_of words (held_bounds b)) (place_in phrase stage) bs place_is
+  placed_is : map (place_of tables.words) (map held_bounds bs) ≡ map (place_in phrase stage) bs
+  placed_is = map-map (place_of tables.words) held_bounds bs ∙ same_at (λ b. place_of tables.words (held_bounds b)) (place_in phrase stage) bs place_is
 
-  pub reports : {after : List PlacedUnit} → Clipped (map (place_of words) (map held_bounds bs)) after
+  pub reports : {after : List PlacedUnit} → Clipped (map (place_of tables.words) (map held_bounds bs)) after
       → map unit_from after ≡ reported_in phrase stage bs
   unfolding reported_in
   reports {after} clipped =
       let spans : List Span = reported (map (placed_unit phrase stage) bs) in
-      let told : map placed (map (place_of words) (map held_bounds bs)) ≡ map (placed_unit phrase stage) bs =
+      let told : map placed (map (place_of tables.words) (map held_bounds bs)) ≡ map (placed_unit phrase stage) bs =
       ap (map placed) placed_is ∙ map-map placed (place_in phrase stage) bs
       ∙ same_map (λ b. placed (place_in phrase stage b)) (placed_unit phrase stage) (λ b. told_by_row phrase stage b (held_by phrase stage b)) bs in
       reported_parts after

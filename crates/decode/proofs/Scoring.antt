@@ -26,7 +26,8 @@ use Rattle.paths.specs.Search.{chosen}
 use Rattle.paths.specs.StageProblem.{problem_of}
 use Rattle.paths.proofs.PathUnits.{units_count, units_in_order}
 use Rattle.rows.specs.declared.trace.Bounds.{Bounds}
-use Rattle.rows.specs.declared.tables.Tables.{Tables}
+use Rattle.std.specs.Borrow.{Bor}
+use Rattle.stages.specs.declared.stage_tables.StageTables.{StageTables}
 use Rattle.rows.specs.Traced.{held_bounds}
 use Rattle.closed.specs.declared.search.Found.{Found}
 use Rattle.closed.specs.declared.search.Missed.{Missed}
@@ -65,7 +66,7 @@ map_replicate f (suc n) x = ap (λ xs. f x ∷ xs) (map_replicate f n x)
 
 -- ---- one candidate of those that a decoder has
 
-module _ {bytes : List ℕ} {at : Layout} (laid : Laid bytes at) {plan : Plan} {nuclei : Tables} {added : Option Tables}
+module _ {bytes : List ℕ} {at : Layout} (laid : Laid bytes at) {plan : Plan} {nuclei : Bor StageTables} {added : Option (Bor StageTables)}
     (inputs : DecodeInputs bytes plan nuclei added) {candidate : ℕ} (below : candidate < length (phrase_of bytes).candidates) where
   abbrev phrase : Phrase
   phrase = phrase_of bytes
@@ -132,18 +133,17 @@ module _ {bytes : List ℕ} {at : Layout} (laid : Laid bytes at) {plan : Plan} {
   pass_there CountRelaxed first = inputs.added_there ∙ added_exists first tt
   pass_there NucleiRelaxed first = refl
 
-  pass_prepared : (pass : Pass) (tables : Tables) → of_pass (Some nuclei) added pass ≡ Some tables
+  pass_prepared : (pass : Pass) (tables : Bor StageTables) → of_pass (Some nuclei) added pass ≡ Some tables
       → PreparedTables phrase (pass_stage phrase pass) tables
   pass_prepared NucleiStrict tables is = let e : nuclei ≡ tables = cc in subst (PreparedTables phrase phrase.nuclei) e inputs.nuclei_prepared
   pass_prepared CountStrict tables is = inputs.added_prepared tables is
   pass_prepared CountRelaxed tables is = inputs.added_prepared tables is
   pass_prepared NucleiRelaxed tables is = let e : nuclei ≡ tables = cc in subst (PreparedTables phrase phrase.nuclei) e inputs.nuclei_prepared
 
-  found_in : (which : Which) (strictness : Strictness) (tables : Tables) {path : Path} → PreparedTables phrase (stage_of which phrase) tables
+  found_in : (which : Which) (strictness : Strictness) (tables : Bor StageTables) {path : Path} → PreparedTables phrase (stage_of which phrase) tables
       → Admitted (problem_of phrase (stage_of which phrase) strictness columns) path
-      → Reporting.Found phrase (stage_of which phrase) strictness tables.words.now (units_of path)
+      → Reporting.Found phrase (stage_of which phrase) strictness tables.now (units_of path)
   found_in which strictness tables prepared admitted = record {
-    figures = tables.figures.now;
     prepared = prepared;
     few_boundaries = few_boundaries_law laid which;
     up = (anchors_fit laid which).ascending;
@@ -177,39 +177,39 @@ module _ {bytes : List ℕ} {at : Layout} (laid : Laid bytes at) {plan : Plan} {
         ap (take k) it.units
         ∙ take_at (map held_bounds (units_of it.path)) _ k (length-map (units_of it.path) held_bounds ∙ units_few ∙ sym counted)
 
-    module _ (tables : Tables) (theirs : of_pass (Some nuclei) added found.pass ≡ Some tables) where
-      path_found : Reporting.Found phrase (pass_stage phrase found.pass) (pass_strictness found.pass) tables.words.now (units_of it.path)
+    module _ (tables : Bor StageTables) (theirs : of_pass (Some nuclei) added found.pass ≡ Some tables) where
+      path_found : Reporting.Found phrase (pass_stage phrase found.pass) (pass_strictness found.pass) tables.now (units_of it.path)
       path_found = go found.pass it.path (pass_prepared found.pass tables theirs) shown.best.admitted
         where
           go : (pass : Pass) (path : Path) → PreparedTables phrase (pass_stage phrase pass) tables
               → Admitted (pass_problem phrase pass columns) path
-              → Reporting.Found phrase (pass_stage phrase pass) (pass_strictness pass) tables.words.now (units_of path)
+              → Reporting.Found phrase (pass_stage phrase pass) (pass_strictness pass) tables.now (units_of path)
           go NucleiStrict path prepared admitted = found_in Nuclei _ tables prepared admitted
           go CountStrict path prepared admitted = found_in Count _ tables prepared admitted
           go CountRelaxed path prepared admitted = found_in Count _ tables prepared admitted
           go NucleiRelaxed path prepared admitted = found_in Nuclei _ tables prepared admitted
 
       pub can_place : (k : ℕ) → k ≡ length columns
-          → Placeable tables.words.now (take k found.path.units) × (length (take k found.path.units) ≡ k)
+          → Placeable (take k found.path.units) × (length (take k found.path.units) ≡ k)
       can_place k counted = (
-        subst (Placeable tables.words.now) (sym (front k counted)) (Reporting.placeable path_found),
+        subst Placeable (sym (front k counted)) (Reporting.placeable path_found),
         ap length (front k counted) ∙ length-map (units_of it.path) held_bounds ∙ units_few ∙ sym counted,
       )
 
       pub scored_found : {k id number : ℕ} {head : EntryHead} {units : List PlacedUnit} → k ≡ length columns → id ≡ chosen_one.id
           → number ≡ pass_number found.pass → HeadOf id number found.path.sum head
-          → Clipped (map (place_of tables.words.now) (take k found.path.units)) units
+          → Clipped (map (place_of tables.now.words) (take k found.path.units)) units
           → ScoredAs (limits_of bytes).units (entry_of phrase chosen_one) head units
       scored_found {k} {head = head} {units = units} counted named numbered headed clipped =
           scored_as (D.found found.pass it.path found.path.sum) it.is head units (headed.named ∙ named) (headed.numbered ∙ numbered) headed.summed
           headed.clamped
           (Reporting.reports path_found
-          (subst (λ (path : List Bounds). Clipped (map (place_of tables.words.now) path) units) (front k counted) clipped))
+          (subst (λ (path : List Bounds). Clipped (map (place_of tables.now.words) path) units) (front k counted) clipped))
 
   pub scored_missed : (missed : Missed) (says : Says (chosen phrase columns) (Err missed))
       → {k id number : ℕ} {total : Float} {head : EntryHead} {units : List PlacedUnit} → k ≡ length columns → id ≡ chosen_one.id
       → number ≡ missed_word missed → total ≡ unanchored_units plan.costs k → HeadOf id number total head
-      → units ≡ replicate k (missed_at plan.lo_edge) → ScoredAs (limits_of bytes).units (entry_of phrase chosen_one) head units
+      → units ≡ replicate k (missed_at plan.edges.start) → ScoredAs (limits_of bytes).units (entry_of phrase chosen_one) head units
   scored_missed missed says {head = head} {units = units} counted named numbered summed headed missed_are =
       let a : Answer = chosen phrase columns in
       let n : ℕ = length columns in
@@ -218,5 +218,5 @@ module _ {bytes : List ℕ} {at : Layout} (laid : Laid bytes at) {plan : Plan} {
       (refl, refl, refl) (refl, refl, refl) a missed says in
       scored_as a refl head units (headed.named ∙ named) (headed.numbered ∙ numbered ∙ sym pathless.0)
       (headed.summed ∙ summed ∙ (λ i. unanchored_units (inputs.planned.costs i) (counted i)) ∙ sym pathless.1) headed.clamped
-      (ap (map unit_from) missed_are ∙ map_replicate unit_from _ (missed_at plan.lo_edge)
+      (ap (map unit_from) missed_are ∙ map_replicate unit_from _ (missed_at plan.edges.start)
       ∙ (λ i. replicate (counted i) (unit_from (missed_at (inputs.planned.low i)))) ∙ sym pathless.2)

@@ -14,8 +14,7 @@ use prepare::stage::lay_stage;
 use reading::accepted::AcceptedRecord;
 use record::read::Which;
 use rows::clear::clear;
-use rows::tables::Tables;
-use stages::lists::{FIGURES, WORDS};
+use stages::stage_tables::NO_TABLES;
 
 // Decodes an accepted record into buffers that are long enough.
 fn decode_accepted(accepted: AcceptedRecord, best: &mut [f64], back: &mut [u32], out: &mut [u32])
@@ -23,29 +22,17 @@ fn decode_accepted(accepted: AcceptedRecord, best: &mut [f64], back: &mut [u32],
     ensures { Leaves accepted.entry.bytes.now best.old back.old out.old best.new
         back.new out.new }
 {
-    // The lists stand first: behind the calls they are zeroed twice, which takes 4,600 instructions of 65,000 on a typical record.
-    let mut words = [0u32; WORDS];
-    let mut figures = [0.0f64; FIGURES];
-    let mut added_words = [0u32; WORDS];
-    let mut added_figures = [0.0f64; FIGURES];
+    // The tables stand first: behind the calls they are zeroed twice, which takes 4,600 instructions of 65,000 on a typical record.
+    let mut nuclei = NO_TABLES;
+    let mut laid = NO_TABLES;
     let at = accepted.at;
     let limits = limits_of(at.edition);
     clear(best, back, limits.work_cells());
     let plan = plan_of(&accepted);
-    let lo = plan.lo_edge;
-    let hi = plan.hi_edge;
-    lay_stage(&accepted, Which::Nuclei, lo, hi, &mut words, &mut figures);
-    lay_added(&accepted, lo, hi, &mut added_words, &mut added_figures);
-    let nuclei = Tables {
-        words: &words,
-        figures: &figures,
-    };
-    let laid = Tables {
-        words: &added_words,
-        figures: &added_figures,
-    };
-    let added = (at.added_anchors.count != 0).then_some(laid);
-    let decoder = Decoder::new(accepted, plan, nuclei, added);
+    lay_stage(&accepted, Which::Nuclei, plan.edges, &mut nuclei);
+    lay_added(&accepted, plan.edges, &mut laid);
+    let added = (at.added_anchors.count != 0).then_some(&laid);
+    let decoder = Decoder::new(accepted, plan, &nuclei, added);
     decoder.put_candidates(best, back, out);
 }
 

@@ -5,27 +5,30 @@ ghost use Rattle.decode.specs.Plans.{DecodeInputs};
 
 use crate::plan::Plan;
 use reading::accepted::AcceptedRecord;
-use rows::tables::Tables;
+use stages::stage_tables::StageTables;
 
 // An accepted record, what is looked up in it, and the tables of its stages; the added stage's are there exactly where that stage is.
 #[derive(Clone, Copy)]
 pub struct Decoder<'a> {
     pub accepted: AcceptedRecord<'a>,
     pub plan: Plan,
-    pub nuclei: Tables<'a>,
-    pub added: Option<Tables<'a>>,
+    pub nuclei: &'a StageTables,
+    pub added: Option<&'a StageTables>,
     pub ghost inputs: { DecodeInputs accepted.bytes.now plan nuclei added },
 }
 
 impl<'a> Decoder<'a> {
-    pub(crate) fn new(
+    pub fn new(
         accepted: AcceptedRecord<'a>,
         plan: Plan,
-        nuclei: Tables<'a>,
-        added: Option<Tables<'a>>,
+        nuclei: &'a StageTables,
+        added: Option<&'a StageTables>,
     ) -> Decoder<'a>
         requires { DecodeInputs accepted.bytes.now plan nuclei added }
-        ensures { result.accepted.bytes.now ≡ accepted.entry.bytes.now }
+        ensures accepted { result.accepted ≡ accepted.entry }
+        ensures plan { result.plan ≡ plan }
+        ensures nuclei { result.nuclei ≡ nuclei.entry }
+        ensures added { result.added ≡ added.entry }
     {
         Decoder {
             accepted,

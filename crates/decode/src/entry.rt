@@ -57,11 +57,11 @@ impl Decoder<'_> {
             Ok(found) => {
                 let path = found.path.units;
                 let tables = found.pass.pick(Some(self.nuclei), self.added).unwrap();
-                report_units(&path[..units.len()], tables.words, units);
+                report_units(&path[..units.len()], &tables.words, units);
                 head_of(id, u32::from(found.pass), found.path.sum)
             }
             Err(missed) => {
-                units.fill(missed_unit(self.plan.lo_edge));
+                units.fill(missed_unit(self.plan.edges.start));
                 let total = self.plan.costs.unanchored_units(units.len());
                 head_of(id, u32::from(missed), total)
             }

@@ -13,12 +13,12 @@ use reading::accepted::AcceptedRecord;
 use record::read::{Edges, Which};
 use stages::anchors::has_nucleus;
 
+// The cost figures, whether there are passes, and the speech edges, which are 0 where there is no speech.
 #[derive(Clone, Copy)]
 pub struct Plan {
     pub costs: Costs,
     pub runs: Runs,
-    pub lo_edge: u32,
-    pub hi_edge: u32,
+    pub edges: Edges,
 }
 
 fn runs_of(accepted: &AcceptedRecord, edges: Option<Edges>) -> Runs
@@ -37,13 +37,10 @@ fn runs_of(accepted: &AcceptedRecord, edges: Option<Edges>) -> Runs
 pub fn plan_of(accepted: &AcceptedRecord) -> Plan
     ensures { PlanOf (phrase_of accepted.now.bytes.now) result }
 {
-    let edges = accepted.speech();
-    let costs = accepted.costs();
-    let runs = runs_of(accepted, edges);
+    let speech = accepted.speech();
     Plan {
-        costs,
-        runs,
-        lo_edge: edges.map_or(0, |edges| edges.start),
-        hi_edge: edges.map_or(0, |edges| edges.end),
+        costs: accepted.costs(),
+        runs: runs_of(accepted, speech),
+        edges: speech.unwrap_or(Edges { start: 0, end: 0 }),
     }
 }

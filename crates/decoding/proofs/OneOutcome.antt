@@ -12,7 +12,7 @@ use Rattle.frames.specs.Outcome.{Outcome, accepted, refused, outcome}
 use Rattle.record.specs.Refusals.{refusal_with}
 use Rattle.limits.specs.declared.refusal.Refusal.{Refusal}
 use Rattle.record.specs.Meaning.{phrase_of}
-use Rattle.record.proofs.Named.{named, named_number}
+use Rattle.limits.proofs.Named.{named, named_number}
 use Rattle.decoding.specs.Contract.{Decodes}
 use Rattle.decoding.proofs.Decodes.{decodes_refused, decodes_accepted}
 

@@ -42,7 +42,7 @@ units_more units i row d old out words below is row_is words_are =
     ∙ ap₂ (λ (front : List ℕ) (n : ℕ). front ++ drop n old) with_unit (let e : 3 * i + 3 ≡ 3 * (i + 1) = omega arith in e)
 
 -- the head, the units and the zeros that fill up: the words of the entry
-pub stored : (most : ℕ) (e : Entry) (old head units zeros : List ℕ) (k : ℕ) → length e.units ≡ k → k ≤ most
+pub stored_in_front : (most : ℕ) (e : Entry) (old head units zeros : List ℕ) (k : ℕ) → length e.units ≡ k → k ≤ most
     → head ≡ e.id ∷ to_bits binary32 e.llr ∷ e.pass ∷ k ∷ low_half (sum_bits e) ∷ high_half (sum_bits e) ∷ []
     → units ≡ unit_words e.units
     → zeros ≡ replicate (entry_words most - (head_words + 3 * k)) 0
@@ -50,7 +50,7 @@ pub stored : (most : ℕ) (e : Entry) (old head units zeros : List ℕ) (k : ℕ
     (put_mid head_words (head_words + 3 * k - head_words) (head ++ drop head_words old) units) zeros
     ≡ words_of most e ++ drop (entry_words most) old
 unfolding words_of
-stored most e old head units zeros k counted few heads listed filled =
+stored_in_front most e old head units zeros k counted few heads listed filled =
     let used : ℕ = head_words + 3 * k in
     let long : length units ≡ 3 * k = ap length listed ∙ length_unit_words e.units ∙ ap (λ (n : ℕ). 3 * n) counted in
     let left : entry_words most - used ≡ 3 * (most - length e.units) = omega arith in

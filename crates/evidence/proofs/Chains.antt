@@ -1,14 +1,8 @@
 -- What chains over a mask or its frames give, as the definitions say it.
-use Rattle.std.proofs.Common.{◌≡◌, ℕ, zero, suc, ◌+◌, Bool, true, false, ◌&&◌, ◌||◌, cond, ltb, List, [], ◌∷◌, add-zero, add-one, refl, sym, ap, ◌∙◌, arith}
-use Rattle.std.specs.List.{list_any, list_all, prefix_len, range_with_len}
-use Rattle.frames.specs.Outcome.{any_above}
+use Rattle.std.proofs.Common.{◌≡◌, ℕ, zero, suc, ◌+◌, Bool, true, false, ◌&&◌, cond, List, add-zero, add-one, refl, sym, ap, ◌∙◌, arith}
+use Rattle.std.specs.List.{list_all, prefix_len, range_with_len}
 use Rattle.evidence.specs.Masks.{marked, all_marked}
 use Rattle.evidence.specs.CreakyTail.{in_tail, run_from}
-
-pub any_listed : (limit : ℕ) (xs : List ℕ) → list_any (ltb limit) xs ≡ any_above limit xs
-unfolding any_above
-any_listed limit [] = refl
-any_listed limit (x ∷ xs) = ap (λ (b : Bool). ltb limit x || b) (any_listed limit xs)
 
 -- a definition that goes down from the last frame, at the first one
 both_ends : (a b c : Bool) → (a && (b && c)) ≡ (b && (a && c))

@@ -5,7 +5,7 @@ use mathlib.Core.List.{List, [], ◌∷◌, ◌++◌, map}
 use mathlib.Core.Path.{◌≡◌, refl}
 use lib.ListN.{replicate}
 use Rattle.laws.specs.Rules.{first_of}
-use Rattle.frames.specs.Outcome.{accepted, refused, any_above}
+use Rattle.frames.specs.Outcome.{accepted, refused}
 use Rattle.std.specs.Prelude.{Option, Some, None}
 use Rattle.evidence.specs.Masks.{all_marked}
 use Rattle.evidence.specs.Joins.{joined, joins_of}
@@ -30,12 +30,12 @@ joins_voice = refl
 
 -- each edge has its own answer
 joins_both : joins_of (replicate 9 1) (replicate 9 1) 2 6 ≡ accepted (record { start = false; end = true })
-unfolding joins_of joined all_marked any_above first_of
+unfolding joins_of joined all_marked first_of
 joins_both = refl
 
 -- "no frame above 4,095 (5)": 4,095 and 4,096
 joins_late : map (joins_of [] [] 0) (4095 ∷ 4096 ∷ []) ≡ accepted (record { start = false; end = false }) ∷ refused 5 ∷ []
-unfolding joins_of joined any_above first_of
+unfolding joins_of joined first_of
 joins_late = refl
 
 -- ---- creaky_tail: frame 1 is the last pitched one, so that the run starts at frame 2
@@ -79,10 +79,10 @@ tail_last = refl
 
 -- "none means no"
 tail_unpitched : creaky_tail_of 0 3 None (replicate 20 0) (replicate 20 1) ≡ accepted false
-unfolding creaky_tail_of last_pitched any_above first_of
+unfolding creaky_tail_of last_pitched first_of
 tail_unpitched = refl
 
 -- the whole call: the span 0..3 and a run of 5 frames
 tail_creaky : creaky_tail_of 0 3 None pitched_two (replicate 7 1) ≡ accepted true
-unfolding creaky_tail_of last_pitched tail_from run_from any_above first_of
+unfolding creaky_tail_of last_pitched tail_from run_from first_of
 tail_creaky = refl

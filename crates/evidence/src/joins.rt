@@ -5,6 +5,7 @@ ghost use Rattle.frames.specs.Outcome.{outcome};
 ghost use Rattle.evidence.specs.Joins.{joined, joins_of};
 
 use crate::masks;
+use frames::list::any_above;
 use frames::sizes::MOST_BYTES;
 use limits::common::LAST_FRAME;
 use limits::refusal::Refusal;
@@ -37,14 +38,19 @@ fn is_joined(voice: &[u8], pitched: &[u8], edge: u32) -> bool
     masks::all_marked(voice, first, VOICE_FRAMES) & masks::all_marked(pitched, first, PITCH_FRAMES)
 }
 
-// Which edges of a span the voice runs through, from one syllable straight into the next.
+// Which edges of a span the voice runs through, from one syllable straight into the next. Start and end come as the C interface lends
+// them.
 pub fn joins(voice: &[u8], pitched: &[u8], start: u32, end: u32) -> Result<Joined, Refusal>
     ensures { outcome result ≡ joins_of voice.now pitched.now start end }
 {
     if (voice.len() > MOST_BYTES) | (pitched.len() > MOST_BYTES) {
         return Err(Refusal::Size);
     }
-    if masks::unfit(voice) | masks::unfit(pitched) | (start > LAST_FRAME) | (end > LAST_FRAME) {
+    if any_above(voice, masks::HIGHEST)
+        | any_above(pitched, masks::HIGHEST)
+        | (start > LAST_FRAME)
+        | (end > LAST_FRAME)
+    {
         return Err(Refusal::Track);
     }
     Ok(Joined {

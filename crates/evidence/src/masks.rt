@@ -2,14 +2,9 @@
 
 ghost use Rattle.std.specs.Prelude.{◌≡◌, ◌+◌, ◌<◌, ◌^◌};
 ghost use Rattle.evidence.specs.Masks.{marked, all_marked};
-ghost use Rattle.frames.specs.Outcome.{any_above};
 
-// Whether a byte is above 1, which no mask has.
-pub fn unfit(mask: &[u8]) -> bool
-    ensures { result ≡ any_above 1 mask.now }
-{
-    mask.iter().any(|byte| *byte > 1)
-}
+// No mask has a byte above this.
+pub const HIGHEST: u8 = 1;
 
 // Whether a frame is within the mask and has the mark.
 pub fn marked(mask: &[u8], frame: usize) -> bool

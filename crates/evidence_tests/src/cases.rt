@@ -11,9 +11,6 @@ use spans::bounds::Bounds;
 use spans::spans::tbu_spans;
 use std::io;
 
-// More cases than there are.
-const MOST_CASES: u32 = 100000;
-
 // A default for a rate: within the range, at its ends and just past them, and what is no number or not finite.
 fn default_of(k: u32) -> f64 {
     match k {
@@ -30,89 +27,101 @@ fn default_of(k: u32) -> f64 {
     }
 }
 
-// 1: default, frames.
-fn rate_case(rt: &impl Print, numbers: &mut Numbers) -> io::Result<()> {
-    let default_s = default_of(numbers.figure());
-    let mut cells = [0u32; 80];
-    let frames = numbers.list(&mut cells);
-    print::rate(rt, rate_s(frames, default_s))?;
-    print::end_line(rt)
+// A case that is run: its numbers, and where its answer is printed.
+#[derive(Drop)]
+struct Run<'a, P: Print> {
+    rt: &'a P,
+    numbers: Numbers<'a>,
 }
 
-// 2: low edge, high edge, words of the output, nuclei, boundaries.
-fn spans_case(rt: &impl Print, numbers: &mut Numbers) -> io::Result<()> {
-    let lo_edge = numbers.figure();
-    let hi_edge = numbers.figure();
-    let mut cells = [7777u32; 140];
-    let room = numbers.count(140);
-    let out = &mut cells[..room];
-    let mut nucleus_cells = [0u32; 80];
-    let nuclei = numbers.list(&mut nucleus_cells);
-    let mut boundary_cells = [0u32; 80];
-    let bounds = Bounds {
-        boundaries: numbers.list(&mut boundary_cells),
-        lo_edge,
-        hi_edge,
-    };
-    print::spans(rt, tbu_spans(nuclei, &bounds, out))?;
-    print::cells(rt, out)?;
-    print::end_line(rt)
-}
+impl<'a, P: Print> Run<'a, P> {
+    // 1: default, frames.
+    fn rate(&mut self) -> io::Result<()> {
+        let default_s = default_of(self.numbers.figure());
+        let mut cells = [0u32; 80];
+        let frames = self.numbers.list(&mut cells);
+        print::rate(self.rt, rate_s(frames, default_s))?;
+        print::end_line(self.rt)
+    }
 
-// 3: start, end, voice mask, pitch mask.
-fn joins_case(rt: &impl Print, numbers: &mut Numbers) -> io::Result<()> {
-    let start = numbers.figure();
-    let end = numbers.figure();
-    let mut voice_cells = [0u8; 2100];
-    let voice = numbers.mask(&mut voice_cells);
-    let mut pitch_cells = [0u8; 2100];
-    let pitched = numbers.mask(&mut pitch_cells);
-    print::joins(rt, joins(voice, pitched, start, end))?;
-    print::end_line(rt)
-}
+    // 2: low edge, high edge, words of the output, nuclei, boundaries.
+    fn spans(&mut self) -> io::Result<()> {
+        let lo_edge = self.numbers.figure();
+        let hi_edge = self.numbers.figure();
+        let mut cells = [7777u32; 140];
+        let room = self.numbers.count(140);
+        let out = &mut cells[..room];
+        let mut nucleus_cells = [0u32; 80];
+        let nuclei = self.numbers.list(&mut nucleus_cells);
+        let mut boundary_cells = [0u32; 80];
+        let bounds = Bounds {
+            boundaries: self.numbers.list(&mut boundary_cells),
+            lo_edge,
+            hi_edge,
+        };
+        print::spans(self.rt, tbu_spans(nuclei, &bounds, out))?;
+        print::cells(self.rt, out)?;
+        print::end_line(self.rt)
+    }
 
-// 4: start, end, next nucleus, where `ABSENT` stands for none, pitch mask, vowel speech mask.
-fn tail_case(rt: &impl Print, numbers: &mut Numbers) -> io::Result<()> {
-    let start = numbers.figure();
-    let end = numbers.figure();
-    let word = numbers.figure();
-    let next = if word == ABSENT { None } else { Some(word) };
-    let mut pitch_cells = [0u8; 2100];
-    let pitched = numbers.mask(&mut pitch_cells);
-    let mut vowel_cells = [0u8; 2100];
-    let vowel_speech = numbers.mask(&mut vowel_cells);
-    print::tail(rt, creaky_tail(start, end, next, pitched, vowel_speech))?;
-    print::end_line(rt)
-}
+    // 3: start, end, voice mask, pitch mask.
+    fn joins(&mut self) -> io::Result<()> {
+        let start = self.numbers.figure();
+        let end = self.numbers.figure();
+        let mut voice_cells = [0u8; 2100];
+        let voice = self.numbers.mask(&mut voice_cells);
+        let mut pitch_cells = [0u8; 2100];
+        let pitched = self.numbers.mask(&mut pitch_cells);
+        print::joins(self.rt, joins(voice, pitched, start, end))?;
+        print::end_line(self.rt)
+    }
 
-// 5: stage word, boundaries of the nuclei stage, boundaries of the added stage.
-fn stage_case(rt: &impl Print, numbers: &mut Numbers) -> io::Result<()> {
-    let word = numbers.figure();
-    let mut nucleus_cells = [0u32; 80];
-    let nuclei = numbers.list(&mut nucleus_cells);
-    let mut added_cells = [0u32; 80];
-    let added = numbers.list(&mut added_cells);
-    print::stage(rt, stage_boundaries(nuclei, added, word))
-}
+    // 4: start, end, next nucleus, where `ABSENT` stands for none, pitch mask, vowel speech mask.
+    fn tail(&mut self) -> io::Result<()> {
+        let start = self.numbers.figure();
+        let end = self.numbers.figure();
+        // As `frame_of` of tikuwero reads it, which stands above the entries that are run here, and above the decoder too.
+        let word = self.numbers.figure();
+        let next = (word != ABSENT).then_some(word);
+        let mut pitch_cells = [0u8; 2100];
+        let pitched = self.numbers.mask(&mut pitch_cells);
+        let mut vowel_cells = [0u8; 2100];
+        let vowel_speech = self.numbers.mask(&mut vowel_cells);
+        print::tail(
+            self.rt,
+            creaky_tail(start, end, next, pitched, vowel_speech),
+        )?;
+        print::end_line(self.rt)
+    }
 
-// The kinds are numbers of the cases' text, and are told apart in this one place: an enum would be matched only here.
-fn run(rt: &impl Print, kind: u32, numbers: &mut Numbers) -> io::Result<()> {
-    match kind {
-        1 => rate_case(rt, numbers),
-        2 => spans_case(rt, numbers),
-        3 => joins_case(rt, numbers),
-        4 => tail_case(rt, numbers),
-        _ => stage_case(rt, numbers),
+    // 5: stage word, boundaries of the nuclei stage, boundaries of the added stage.
+    fn stage(&mut self) -> io::Result<()> {
+        let word = self.numbers.figure();
+        let mut nucleus_cells = [0u32; 80];
+        let nuclei = self.numbers.list(&mut nucleus_cells);
+        let mut added_cells = [0u32; 80];
+        let added = self.numbers.list(&mut added_cells);
+        print::stage(self.rt, stage_boundaries(nuclei, added, word))
+    }
+
+    // The kinds are numbers of the cases' text, and are told apart in this one place: an enum would be matched only here.
+    fn case(&mut self, kind: u32) -> io::Result<()> {
+        match kind {
+            1 => self.rate(),
+            2 => self.spans(),
+            3 => self.joins(),
+            4 => self.tail(),
+            _ => self.stage(),
+        }
     }
 }
 
-// Runs case after case, up to the end of the text.
-pub(crate) fn run_all(rt: &impl Print, text: &[u8]) -> io::Result<()> {
-    let mut numbers = Numbers::of(text);
-    for _ in 0..MOST_CASES {
-        match numbers.next() {
-            Some(kind) => run(rt, kind, &mut numbers)?,
-            None => return Ok(()),
+// Runs the case of each line. A line without a number has none.
+pub(crate) fn run_all<P: Print>(rt: &P, text: &[u8]) -> io::Result<()> {
+    for line in text.split(|byte| *byte == b'\n') {
+        let mut numbers = Numbers::of(line);
+        if let Some(kind) = numbers.next() {
+            Run { rt, numbers }.case(kind)?;
         }
     }
     Ok(())

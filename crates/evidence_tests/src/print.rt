@@ -23,8 +23,8 @@ pub(crate) fn cells(rt: &impl Print, cells: &[u32]) -> io::Result<()> {
 
 // The bits of a rate. No rate is a NaN, which alone has no pattern of its own.
 fn bits(rt: &impl Print, r: f64) -> io::Result<()> {
-    if r == r {
-        let pattern = f64::to_bits(r);
+    if !r.is_nan() {
+        let pattern = r.to_bits();
         print!(rt; "{pattern:016x}")?;
     }
     Ok(())

@@ -20,6 +20,8 @@ pub struct CandidateList<'a> {
     ghost candidates_read: { CandidatesRead limits (length bytes.now) at },
 }
 
+// Each asks that candidate `i` is one of the list, as indexing a slice does; so do the checks of `candidates` and the readers of
+// `AcceptedRecord`. A type for such an `i` would move that to where it is made, which is beside each call.
 impl CandidateList<'_> {
     // Where the entry of candidate `i` stands.
     fn start(&self, i: usize) -> usize

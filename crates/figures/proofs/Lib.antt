@@ -1,2 +1,3 @@
 -- Steps of the proofs of these tests.
 mod Ranges
+mod Tables

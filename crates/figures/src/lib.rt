@@ -3,10 +3,15 @@
 
 #![tactic(auto)]
 
-ghost use Rattle.std.specs.Prelude.{◌≡◌, ◌+◌, ◌*◌, ◌≤◌, length};
+ghost use Rattle.std.specs.Prelude.{◌≡◌, ◌+◌, ◌≤◌, Bool, not, length, from_bits};
+ghost use Rattle.std.specs.List.{list_any};
+ghost use Rattle.std.specs.Int.{w32, w64, from_le_bytes};
+ghost use Rattle.std.specs.Float.{binary32, binary64};
+ghost use Rattle.ieee.specs.Range.{within};
+ghost use Rattle.limits.specs.Common.{million};
 ghost use Rattle.record.specs.Inner.Bounds.{Within};
 ghost use Rattle.record.specs.Format.{costs_bytes, table_bytes};
-ghost use Rattle.record.specs.Conditions.{bad_scores, bad_figures, bad_table, bad_cost};
+ghost use Rattle.record.specs.Conditions.{bad_figures, is_duration, bad_cost};
 
 use ieee::range::{nonpositive64, within};
 use limits::common::DURATIONS;
@@ -21,15 +26,16 @@ const MILLION_64: u64 = 0x412e_8480_0000_0000;
 
 const THOUSAND_64: u64 = 0x408f_4000_0000_0000;
 
-fn bad_scores(bytes: &[u8], start: usize, entries: usize) -> bool
-    requires { start + 4 * entries ≤ length bytes.now }
-    ensures { result ≡ bad_scores bytes.now start entries }
+// Whether a number of a table is bad, by any test that the closure's results are those of.
+fn any_bad<T: Copy, F: Fn(T) -> bool>(numbers: &[T], bad: F) -> bool
+    requires { F.IsAlwaysCallable bad }
+    ensures { (test : T → Bool)
+        → ((number : T) (r : Bool) → F.post bad number r → r ≡ test number)
+        → result ≡ list_any test numbers.now }
 {
-    let mut bad = false;
-    for score in numbers_at(bytes, start, entries) {
-        bad |= !within(u32::from_le_bytes(*score), MILLION_32);
-    }
-    bad
+    numbers
+        .iter()
+        .fold(false, |found, number| found | bad(*number))
 }
 
 fn bad_figures(bytes: &[u8], costs: usize) -> bool
@@ -41,17 +47,6 @@ fn bad_figures(bytes: &[u8], costs: usize) -> bool
         | !within(u32_at(bytes, costs + UNVOICED_AT), MILLION_32)
 }
 
-fn bad_table(bytes: &[u8], table: usize) -> bool
-    requires { table + table_bytes ≤ length bytes.now }
-    ensures { result ≡ bad_table bytes.now table }
-{
-    let mut bad = false;
-    for duration in numbers_at(bytes, table, DURATIONS) {
-        bad |= !nonpositive64(u64::from_le_bytes(*duration), MILLION_64);
-    }
-    bad
-}
-
 // The second table is not read where there are no anchors.
 pub fn bad_cost(bytes: &[u8], at: Layout) -> bool
     requires { Within (length bytes.now) at }
@@ -59,14 +54,20 @@ pub fn bad_cost(bytes: &[u8], at: Layout) -> bool
 {
     let costs = at.costs;
     let entries = (at.nuclei.count + at.added_anchors.count) * at.scores.count;
-    if bad_scores(bytes, at.scores.start, entries)
-        | bad_figures(bytes, costs)
-        | bad_table(bytes, costs + FIRST_TABLE_AT)
-    {
+    let bad_score = |bytes: [u8; 4]| -> bool
+        ensures { result ≡ not (within million (from_bits binary32 (from_le_bytes w32 bytes))) }
+    { !within(u32::from_le_bytes(bytes), MILLION_32) };
+    let not_duration = |bytes: [u8; 8]| -> bool
+        ensures { result ≡ not (is_duration (from_bits binary64 (from_le_bytes w64 bytes))) }
+    { !nonpositive64(u64::from_le_bytes(bytes), MILLION_64) };
+    let scores = numbers_at(bytes, at.scores.start, entries);
+    let first = numbers_at(bytes, costs + FIRST_TABLE_AT, DURATIONS);
+    if any_bad(scores, bad_score) | bad_figures(bytes, costs) | any_bad(first, not_duration) {
         return true;
     }
     if at.added_anchors.count == 0 {
         return false;
     }
-    bad_table(bytes, costs + SECOND_TABLE_AT)
+    let second = numbers_at(bytes, costs + SECOND_TABLE_AT, DURATIONS);
+    any_bad(second, not_duration)
 }

@@ -5,7 +5,7 @@ use mathlib.Core.List.{List, [], ◌∷◌}
 use mathlib.Core.Logic.{◌↔◌}
 use mathlib.Core.Option.{Option, none, some}
 use mathlib.Core.Path.{◌≡◌, refl, sym, ap, ◌∙◌}
-use Rattle.laws.specs.Inner.Each.{Each}
+use Rattle.laws.specs.Inner.Each.{Each, each_none, each_more}
 use Rattle.laws.specs.Rules.{Rule, rule, first_of}
 use Rattle.laws.specs.Theory.OneOutcome.{ExactlyOne}
 use Rattle.laws.proofs.Rules.{Says, given_under}
@@ -39,6 +39,11 @@ answers e = ap accepted e
 pub refusing : (n : ℕ) {b : Bool} → number_of (named n) ≡ n → Says (λ (m : ℕ). number_of (named m) ≡ m) (rule n b)
 refusing n e = record { says = λ held. e }
 
+-- what each rule says of its number, it says by way of what follows from that
+each_says : {P Q : ℕ → Type 0} → ((n : ℕ) → P n → Q n) → {rules : List (Rule ℕ)} → Each (Says P) rules → Each (Says Q) rules
+each_says follows each_none = each_none
+each_says follows (each_more {x = r} s ss) = each_more (record { says = λ held. follows r.answer (s.says held) }) (each_says follows ss)
+
 module _ {A : Type 0} where
   unfoldable was_refused : Outcome A → Bool
   was_refused (accepted a) = false
@@ -62,6 +67,15 @@ module _ {A : Type 0} where
   accepted_by none a e = (refl, ap (value_or a) e)
   accepted_by (some m) a e = absurd (true≢false (ap was_refused e))
 
+  -- the Result with an outcome's value or number
+  abbrev pub answer_of : Outcome A → Result A Refusal
+  answer_of (accepted a) = Ok a
+  answer_of (refused n) = Err (named n)
+
+  pub answer_known : (answer : Result A Refusal) → answer_of (outcome answer) ≡ answer
+  answer_known (Ok a) = refl
+  answer_known (Err refusal) = ap Err (named_number refusal)
+
   module _ (rules : List (Rule ℕ)) (a : A) where
     -- an entry refuses by a number exactly where its rules give that number
     pub refuses_exactly : (n : ℕ) → (checked rules a ≡ refused n) ↔ (first_of rules ≡ some n)
@@ -74,18 +88,17 @@ module _ {A : Type 0} where
       λ h. ap (λ (o : Option ℕ). unless o a) h.0 ∙ ap accepted h.1,
     )
 
-    -- where each rule's number is that of a refusal, exactly one answer is right
-    pub one_answer : Each (Says (λ (n : ℕ). number_of (named n) ≡ n)) rules → ExactlyOne (λ (answer : Result A Refusal). outcome answer ≡ checked rules a)
-    one_answer numbers = one_meaning outcome answer_of answer_known (checked rules a) (go (first_of rules) refl)
+    -- where each rule's number is that of an answer, and an answer is known by its number and value, exactly one answer is right
+    pub one_answer :
+        {B : Type 0} (outcome : B → Outcome A) (given : Outcome A → B) → ((answer : B) → given (outcome answer) ≡ answer) →
+        Each (Says (λ (n : ℕ). outcome (given (refused n)) ≡ refused n)) rules → outcome (given (accepted a)) ≡ accepted a →
+        ExactlyOne (λ (answer : B). outcome answer ≡ checked rules a)
+    one_answer outcome given known numbers value = one_meaning outcome given known (checked rules a) (go (first_of rules) refl)
       where
-        answer_of : Outcome A → Result A Refusal
-        answer_of (accepted b) = Ok b
-        answer_of (refused n) = Err (named n)
+        go : (o : Option ℕ) → first_of rules ≡ o → outcome (given (unless o a)) ≡ unless o a
+        go none e = value
+        go (some n) e = given_under rules numbers e
 
-        answer_known : (answer : Result A Refusal) → answer_of (outcome answer) ≡ answer
-        answer_known (Ok b) = refl
-        answer_known (Err refusal) = ap Err (named_number refusal)
-
-        go : (o : Option ℕ) → first_of rules ≡ o → outcome (answer_of (unless o a)) ≡ unless o a
-        go none e = refl
-        go (some n) e = ap refused (given_under rules numbers e)
+    -- so where each rule's number is that of a refusal, exactly one Result is right
+    pub one_result : Each (Says (λ (n : ℕ). number_of (named n) ≡ n)) rules → ExactlyOne (λ (answer : Result A Refusal). outcome answer ≡ checked rules a)
+    one_result numbers = one_answer outcome answer_of answer_known (each_says (λ n. ap refused) numbers) refl

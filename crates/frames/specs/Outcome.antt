@@ -1,5 +1,6 @@
 -- How an entry answers: its values, or the number of a refusal (document 01, "What the decoder says no with").
-use Rattle.std.specs.Prelude.{ℕ, Bool, false, ◌||◌, List, [], ◌∷◌, ltb, Result, Ok, Err}
+use Rattle.std.specs.Prelude.{ℕ, Bool, List, ltb, Result, Ok, Err}
+use Rattle.std.specs.List.{list_any}
 use Rattle.std.proofs.Math.Option.{Option, none, some}
 use Rattle.limits.specs.Refusals.{number_of}
 use Rattle.limits.specs.declared.refusal.Refusal.{Refusal}
@@ -24,9 +25,8 @@ abbrev pub checked : {A : Type 0} → List (Rule ℕ) → A → Outcome A
 checked rules a = unless (first_of rules) a
 
 -- a number of a list lies above the limit: "no byte above 1", "none above 4,095"
-unfoldable pub any_above : ℕ → List ℕ → Bool
-any_above limit [] = false
-any_above limit (x ∷ xs) = ltb limit x || any_above limit xs
+abbrev pub any_above : ℕ → List ℕ → Bool
+any_above limit xs = list_any (ltb limit) xs
 
 -- the most frames of a list and bytes of a mask that an entry takes
 abbrev pub most_frames : ℕ

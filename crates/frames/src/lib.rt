@@ -3,6 +3,7 @@
 #![tactic(auto)]
 
 pub mod list;
+pub mod ordered;
 pub mod sizes;
 pub mod span;
 pub mod stage;

@@ -1,5 +1,6 @@
-// The total order of f32, Rust's `f32::total_cmp`, on values that are no NaN. A result entry holds the bits of its score, and is ranked
-// by the number that this makes of them; std's `total_cmp` takes floats that are known to be no NaN.
+// The total order of f32, Rust's `f32::total_cmp`, as a number that orders the same. A result entry holds the bits of its score, and is
+// ranked by this number of them. std's `total_cmp` asks that neither float is a NaN, so that with it `insert_entry` would have to ask that no
+// score that stands in the output is one.
 
 ghost use Rattle.std.specs.Prelude.{◌≡◌, not, T, is_nan};
 ghost use Rattle.std.specs.Float.{binary32};

@@ -1,11 +1,13 @@
 -- Parts of lists, with places as code counts them (`i + 1`). Assumes nothing.
 use Prim.Native.Nat.{ℕ, zero, suc, ◌+◌, ◌-◌, ◌≤◌, ◌<◌}
+use mathlib.Core.Bool.{Bool, true, false, ◌||◌}
 use mathlib.Core.Path.{◌≡◌, refl, sym, ap, ◌∙◌}
 use mathlib.Core.List.{List, [], ◌∷◌}
 use native.Mathlib.Numerals.{add-one}
 use native.Mathlib.Omega.{arith}
 use lib.ListN.{length, get_or, drop, replicate}
 use lib.Seq.{drop-cons}
+use Rattle.std.specs.List.{fold, list_any}
 
 module _ {ℓ} {A : Type ℓ} where
   pub length_none : (l : List A) → length l ≡ 0 → l ≡ []
@@ -28,3 +30,14 @@ module _ {ℓ} {A : Type ℓ} where
   drop_replicate (suc n) (suc size) x =
       let e : size - n ≡ suc size - suc n = omega arith in
       drop_replicate n size x ∙ ap (λ (m : ℕ). replicate m x) e
+
+-- a walk to the end that tests each entry, by `fold`
+module _ {A : Type 0} (test : A → Bool) where
+  any_from : (before : Bool) (xs : List A) → fold (λ b x. b || test x) before xs ≡ (before || list_any test xs)
+  any_from true [] = refl
+  any_from false [] = refl
+  any_from true (x ∷ xs) = any_from true xs
+  any_from false (x ∷ xs) = any_from (test x) xs
+
+  pub any_folded : (xs : List A) → fold (λ b x. b || test x) false xs ≡ list_any test xs
+  any_folded xs = any_from false xs

@@ -27,6 +27,8 @@ pub const HEAD_WORDS: usize = 6;
 
 pub const UNIT_WORDS: usize = 3;
 
+// Each asks for moderate numbers, since those of any `Limits` may leave a word. A type that holds no others would ask more of `other_edition`
+// and `oversized` (sections), which take any.
 impl Limits {
     pub fn candidate_bytes(self) -> usize
         requires { Moderate self }
@@ -66,6 +68,7 @@ fn edition_1() -> Limits
 }
 
 // The numbers of the edition that a trailer names. There is one edition; a trailer that names another is refused by 2.
+#[tactic(auto, unfolding(crate::specs::Edition::numbers_of))]
 pub fn limits_of(edition: usize) -> Limits
     ensures { result ≡ numbers_of edition }
 {

@@ -11,7 +11,8 @@ use whole_input::read_full;
 // More bytes than the input has.
 const MOST_INPUT: usize = 65536;
 
-// A record that the input ends in is what is left of it.
+// A record that the input ends in is what is left of it. An iterator of records, by `from_fn` or a type of its own, would need a law that it
+// ends; here what is left gets shorter.
 fn print_all<W: Write>(out: &mut W, input: &[u8]) -> io::Result<()> {
     let mut left = input;
     while let Some((len, rest)) = left.split_first_chunk::<2>() {

@@ -30,7 +30,7 @@ use Rattle.limits.specs.declared.refusal.Refusal.{Refusal}
 use Rattle.limits.specs.declared.refusal.Refusal.TheVariants.{Stub, Edition, Size, Reach, Track, Cost, Bare, Twice, Units as BadUnits, Column, Desk}
 use Rattle.record.proofs.Accepted.{fit, own_moderate}
 use Rattle.record.proofs.Given.{own_under}
-use Rattle.record.proofs.Named.{named}
+use Rattle.limits.proofs.Named.{named}
 use Rattle.prepare.proofs.Parts.{boundaries_fit}
 use Rattle.most_units.specs.Most.{paths_of, Most}
 use Rattle.most_units.specs.Answers.{Answers, is_refused, no_boundary, is_counted, no_path_number, number_for}

@@ -1,3 +1,2 @@
 -- What functions promise one another; no promise of an entry uses it.
 pub mod Last
-pub mod Reach

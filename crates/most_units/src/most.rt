@@ -2,29 +2,34 @@
 
 ghost use Rattle.std.specs.Prelude.{◌≡◌, ◌<◌, length, Ok};
 ghost use Rattle.limits.specs.Capacity.{unit_counts};
-ghost use Rattle.rows.specs.Reads.{reached_by};
-ghost use Rattle.stages.specs.Lists.{words_long};
+ghost use Rattle.stages.specs.Tables.{entry_by};
 ghost use Rattle.most_units.specs.Answers.{Answers};
 ghost use Rattle.most_units.specs.Inner.Last.{LastReached};
 
 use crate::reach::lay_reach;
 use checks::check;
-use limits::capacity::MOST_BOUNDARIES;
+use limits::capacity::{MOST_BOUNDARIES, UNIT_COUNTS};
 use limits::edition::limits_of;
 use limits::refusal::Refusal;
 use paths::passes::Strictness;
+use prepare::stage_read::StageRead;
 use reading::accepted::AcceptedRecord;
 use record::read::Which;
-use rows::reached::first_reached;
-use stages::lists::WORDS;
+use stages::by_strictness::ByStrictness;
+use stages::stage_tables::NO_WORDS;
 
 // The last count of units, up to the cap, that reaches one of `n` boundaries; there is at least one.
-fn last_reached(words: &[u32], strictness: Strictness, n: usize, cap: usize) -> usize
-    requires { (length words.now ≡ words_long) × (cap < unit_counts) × (reached_by words.now strictness 0 < n) }
-    ensures { LastReached (reached_by words.now strictness) n cap result }
+fn last_reached(
+    since: &ByStrictness<UNIT_COUNTS>,
+    strictness: Strictness,
+    n: usize,
+    cap: usize,
+) -> usize
+    requires { (cap < unit_counts) × (entry_by since.now strictness 0 < n) }
+    ensures { LastReached (entry_by since.now strictness) n cap result }
 {
     for units in 0..cap {
-        if first_reached(words, strictness, units + 1) >= n {
+        if since.at(strictness, units + 1) >= n {
             return units;
         }
     }
@@ -36,14 +41,15 @@ fn most_of(accepted: &AcceptedRecord, which: Which, strictness: Strictness) -> O
     ensures { Answers accepted.now.bytes.now which strictness (Ok result) }
 {
     let mut bounds = [0u32; MOST_BOUNDARIES];
-    let n = accepted.boundaries(which, &mut bounds);
+    let stage = StageRead::new(accepted, which, &mut bounds);
+    let n = stage.bounds.len();
     if n == 0 {
         return None;
     }
-    let mut words = [0u32; WORDS];
-    lay_reach(accepted, which, &bounds[..n], &mut words);
-    let cap = limits_of(accepted.at.edition).units;
-    Some(last_reached(&words, strictness, n, cap) as u32)
+    let mut words = NO_WORDS;
+    lay_reach(&stage, &mut words);
+    let cap = limits_of(stage.accepted.at.edition).units;
+    Some(last_reached(&words.since, strictness, n, cap) as u32)
 }
 
 // The most units of a path in a stage of the record, strict or relaxed, whether or not decoding would run that pass; none where

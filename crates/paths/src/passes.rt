@@ -1,7 +1,7 @@
 // Which units a pass allows, and the passes, after `Pass` and `Which` of closed.rs.
 
 ghost use Rattle.std.specs.Prelude.{◌≡◌};
-ghost use Rattle.paths.specs.Passes.{of_pass, pass_number};
+ghost use Rattle.paths.specs.Passes.{of_pass, pass_number, pass_strictness};
 
 // What a unit must hold: exactly one anchor, or none or one.
 #[derive(Clone, Copy, Debug, PartialEq, Eq)]
@@ -27,6 +27,18 @@ impl Pass {
         match self {
             Pass::NucleiStrict | Pass::NucleiRelaxed => nuclei,
             Pass::CountStrict | Pass::CountRelaxed => added,
+        }
+    }
+}
+
+// What a pass asks of each unit.
+impl From<Pass> for Strictness {
+    ghost from_gives = { λ pass strictness. strictness ≡ pass_strictness pass };
+
+    fn from(pass: Pass) -> Strictness {
+        match pass {
+            Pass::NucleiStrict | Pass::CountStrict => Strictness::Strict,
+            Pass::CountRelaxed | Pass::NucleiRelaxed => Strictness::Relaxed,
         }
     }
 }

@@ -33,7 +33,8 @@ impl Costs {
         self.unvoiced as f64
     }
 
-    // "f32 k × unvoiced, widened": that of k units.
+    // "f32 k × unvoiced, widened": that of k units. The search asks the same of a count of units (`trace`, `finish`); a type for such counts
+    // would be opened again at each sum and index.
     pub fn unanchored_units(self, k: usize) -> f64
         requires { k ≤ most_units }
         ensures { result ≡ unanchored_units self k }

@@ -2,5 +2,4 @@
 pub mod Lists
 pub mod Parts
 pub mod Rows
-pub mod Around
 pub mod Prepared

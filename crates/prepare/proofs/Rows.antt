@@ -17,23 +17,23 @@ use Rattle.stages.proofs.Held.{IsListed, AllListed, listed_at, figure_from}
 use Rattle.stages.proofs.Last.{last_take}
 use Rattle.stages.proofs.Stage.{Placing, place_few}
 use Rattle.stages.proofs.Searched.{reads_rows, last_at}
-use Rattle.prepare.specs.Sides.{listed_span, figure_before, RowsWithin}
+use Rattle.prepare.specs.Sides.{listed_span, listed_before, RowsWithin}
 
--- ---- a figure of listed anchors, by the rows before places
+-- ---- a span of listed anchors, by the rows before places
 
-module _ (figure : ℕ → ℕ) (rows : List ℕ) (first : ℕ) where
-  figure_other : (place : ℕ) → (place ≡ 0 → ⊥) → figure (entry_of rows (place - 1) - first) ≡ figure_before figure rows first place
-  figure_other zero ne = absurd (ne refl)
-  figure_other (suc place) ne = let e : suc place - 1 ≡ place = omega arith in ap (λ (at : ℕ). figure (entry_of rows at - first)) e
+module _ (span : ℕ → Span) (rows : List ℕ) (first : ℕ) where
+  before_other : (place : ℕ) → (place ≡ 0 → ⊥) → span (entry_of rows (place - 1) - first) ≡ listed_before span rows first place
+  before_other zero ne = absurd (ne refl)
+  before_other (suc place) ne = let e : suc place - 1 ≡ place = omega arith in ap (λ (at : ℕ). span (entry_of rows at - first)) e
 
--- a figure of the rows that occur
-pub figure_same : (f g : ℕ → ℕ) (rows : List ℕ) (first place : ℕ)
+-- a span of the rows that occur
+pub before_same : (f g : ℕ → Span) (rows : List ℕ) (first place : ℕ)
     → (0 < place → f (entry_of rows (place - 1) - first) ≡ g (entry_of rows (place - 1) - first))
-    → figure_before f rows first place ≡ figure_before g rows first place
-figure_same f g rows first zero same = refl
-figure_same f g rows first (suc place) same =
-    sym (figure_other f rows first (suc place) (λ e. omega arith)) ∙ same (omega arith)
-    ∙ figure_other g rows first (suc place) (λ e. omega arith)
+    → listed_before f rows first place ≡ listed_before g rows first place
+before_same f g rows first zero same = refl
+before_same f g rows first (suc place) same =
+    sym (before_other f rows first (suc place) (λ e. omega arith)) ∙ same (omega arith)
+    ∙ before_other g rows first (suc place) (λ e. omega arith)
 
 -- ---- kept anchors of a list, where they and their rows stand in arrays
 
@@ -63,23 +63,20 @@ module _ (listed : List ℕ) (first : ℕ) {mask : List ℕ} {anchors : List Anc
         omega (arith, row_is place inside, (is_listed place inside).within);
   }
 
-  -- an edge of the span of the last anchor up to a place
-  module _ (lo hi : ℕ) (edge : Span → ℕ) (none : edge (record { start = 0; end = 0 }) ≡ 0) where
+  -- the span of the last anchor up to a place
+  module _ (lo hi : ℕ) where
     span_up_to : (place : ℕ) → place ≤ length anchors
-        → figure_before (λ i. edge (span_of listed bounds lo hi (entry_of listed i))) rows first place
-        ≡ edge (listed_span listed bounds lo hi (last_of (take place anchors)))
+        → listed_before (λ i. span_of listed bounds lo hi (entry_of listed i)) rows first place
+        ≡ listed_span listed bounds lo hi (last_of (take place anchors))
     unfolding last_of
-    span_up_to zero h = sym none
+    span_up_to zero h = refl
     span_up_to (suc place) h =
-        ap (λ (row : ℕ). edge (span_of listed bounds lo hi (entry_of listed (row - first)))) (row_is place h)
-        ∙ ap (λ (frame : ℕ). edge (span_of listed bounds lo hi frame)) (is_listed place h).there
-        ∙ sym
-        (ap (λ (some : List Anchor). edge (listed_span listed bounds lo hi some))
-        (last_take anchors place (record { frame = 0; row = 0 }) h))
+        ap (λ (row : ℕ). span_of listed bounds lo hi (entry_of listed (row - first))) (row_is place h)
+        ∙ ap (span_of listed bounds lo hi) (is_listed place h).there
+        ∙ sym (ap (listed_span listed bounds lo hi) (last_take anchors place (record { frame = 0; row = 0 }) h))
 
     pub span_at : (j : ℕ) → j < length bounds
-        → figure_before (λ i. edge (span_of listed bounds lo hi (entry_of listed i))) rows first (entry_of places j)
-        ≡ edge (listed_span listed bounds lo hi (last_of (before anchors (get_or bounds j 0))))
+        → listed_before (λ i. span_of listed bounds lo hi (entry_of listed i)) rows first (entry_of places j)
+        ≡ listed_span listed bounds lo hi (last_of (before anchors (get_or bounds j 0)))
     span_at j h =
-        span_up_to (entry_of places j) (place_few p j h)
-        ∙ ap (λ (some : List Anchor). edge (listed_span listed bounds lo hi some)) (sym (last_at p j h))
+        span_up_to (entry_of places j) (place_few p j h) ∙ ap (listed_span listed bounds lo hi) (sym (last_at p j h))

@@ -3,3 +3,4 @@
 #![tactic(auto)]
 
 pub mod stage;
+pub mod stage_read;

@@ -1,15 +1,17 @@
 -- What is left to write after a turn of each loop over words.
-use Prim.Native.Nat.{ℕ, suc, ◌+◌, ◌-◌, ◌*◌, ◌≤◌, ◌<◌}
-use mathlib.Core.List.{List, [], ◌++◌}
-use mathlib.Core.Path.{◌≡◌, sym, ap, subst, ◌∙◌}
+use Prim.Native.Nat.{ℕ, zero, suc, ◌+◌, ◌-◌, ◌*◌, ◌≤◌, ◌<◌}
+use mathlib.Core.List.{List, [], ◌∷◌, ◌++◌}
+use mathlib.Core.Path.{◌≡◌, refl, ap, ap₂, subst, ◌∙◌}
 use native.Mathlib.Omega.{arith}
 use lib.ListN.{length, get_or, take, drop, length-drop}
-use lib.Seq.{take_all, drop-drop}
-use Rattle.laws.proofs.Numbers.{next_row}
+use Rattle.std.specs.Prelude.{map}
+use lib.Seq.{take_all, drop_at}
+use Rattle.std.specs.Simd.{first_chunks}
+use Rattle.std.proofs.lemmas.List.{at_drop_more, at_drop_all}
 use Rattle.entries.specs.Entry.{ReportedUnit}
 use Rattle.limits.specs.Sizes.{entry_words}
-use Rattle.printing.specs.Listing.{unit_line, unit_lines}
-use Rattle.printing.specs.Inner.InWords.{units_in, lines_in, all_lines_in, Whole, AllWhole, more}
+use Rattle.printing.specs.Listing.{head_line, unit_line, unit_lines}
+use Rattle.printing.specs.Inner.InWords.{unit_in, units_in, units_of, lines_in, all_lines_in, Whole, AllWhole, none, more}
 
 -- a part of a slice up to its end is what is left of it
 pub part_from : (from : ℕ) (words : List ℕ) → take (length words - from) (drop from words) ≡ drop from words
@@ -17,73 +19,86 @@ part_from from words = take_all (length words - from) (drop from words) (omega (
 
 -- ---- units
 
--- the unit whose words stand at the front
-abbrev pub first_unit : List ℕ → ReportedUnit
-first_unit words = record { start = get_or words 0 0; end = get_or words 1 0; row = get_or words 2 0 }
+-- the units of the first words, three by three
+pub units_chunked : (count m : ℕ) (words : List ℕ) → count ≤ m → map unit_in (take count (first_chunks 3 m words)) ≡ units_in count words
+unfolding units_in
+units_chunked zero m words few = refl
+units_chunked (suc count) zero words few = absurd (omega arith)
+units_chunked (suc count) (suc m) words few = ap₂ (λ (u : ReportedUnit) (us : List ReportedUnit). u ∷ us) (first words) (units_chunked count m (drop 3 words) (omega arith))
+  where
+    first : (ws : List ℕ) → unit_in (take 3 ws) ≡ unit_in ws
+    first [] = refl
+    first (a ∷ []) = refl
+    first (a ∷ b ∷ []) = refl
+    first (a ∷ b ∷ c ∷ ws) = refl
 
--- the lines of the units from number i up to `count`
-abbrev pub units_left : List ℕ → ℕ → ℕ → List ℕ
-units_left words count i = unit_lines (units_in (count - i) (drop (3 * i) words))
+module _ (units : List (List ℕ)) (i : ℕ) where
+  pub units_turn : i < length units → unit_lines (map unit_in (drop i units)) ≡ unit_line (unit_in (get_or units i [])) ++ unit_lines (map unit_in (drop (i + 1) units))
+  unfolding unit_lines
+  units_turn more_left = at_drop_more (λ us. unit_lines (map unit_in us)) units i [] more_left
 
-module _ (words : List ℕ) where
-  pub units_turn : (count i : ℕ) → i < count → units_left words count i ≡ unit_line (first_unit (drop (3 * i) words)) ++ units_left words count (i + 1)
-  unfolding unit_lines units_in
-  units_turn count i more_left =
-      let one_less : count - i ≡ suc (count - (i + 1)) = omega arith in
-      let further : 3 * i + 3 ≡ 3 * (i + 1) = omega arith in
-      ap (λ (n : ℕ). unit_lines (units_in n (drop (3 * i) words))) one_less
-      ∙ ap (λ (rest : List ℕ). unit_line (first_unit (drop (3 * i) words)) ++ unit_lines (units_in (count - (i + 1)) rest))
-      (drop-drop 3 (3 * i) words ∙ ap (λ (n : ℕ). drop n words) further)
-
-  pub units_end : (count i : ℕ) → count ≤ i → units_left words count i ≡ []
-  unfolding unit_lines units_in
-  units_end count i none_left =
-      let nothing : count - i ≡ 0 = omega arith in
-      ap (λ (n : ℕ). unit_lines (units_in n (drop (3 * i) words))) nothing
+  pub units_end : length units ≤ i → unit_lines (map unit_in (drop i units)) ≡ []
+  unfolding unit_lines
+  units_end none_left = at_drop_all (λ us. unit_lines (map unit_in us)) units i none_left
 
 -- ---- entries
 
--- the words from entry i on, and the lines of the entries from there up to `count`
-abbrev pub words_left : ℕ → List ℕ → ℕ → List ℕ
-words_left most words i = drop (i * entry_words most) words
+units_front : (k : ℕ) (words rest : List ℕ) → 3 * k ≤ length words → units_in k (words ++ rest) ≡ units_in k words
+unfolding units_in
+units_front zero words rest long = refl
+units_front (suc k) [] rest long = absurd (omega arith)
+units_front (suc k) (a ∷ []) rest long = absurd (omega arith)
+units_front (suc k) (a ∷ b ∷ []) rest long = absurd (omega arith)
+units_front (suc k) (a ∷ b ∷ c ∷ words) rest long =
+    ap (λ (us : List ReportedUnit). record { start = a; end = b; row = c } ∷ us) (units_front k words rest (omega arith))
 
-abbrev pub entries_left : ℕ → List ℕ → ℕ → ℕ → List ℕ
-entries_left most words count i = all_lines_in (entry_words most) (count - i) (words_left most words i)
+-- what stands behind an entry is no part of its lines
+count_front : (words rest : List ℕ) → 6 ≤ length words → units_of (words ++ rest) ≡ units_of words
+count_front [] rest long = absurd (omega arith)
+count_front (a ∷ []) rest long = absurd (omega arith)
+count_front (a ∷ b ∷ []) rest long = absurd (omega arith)
+count_front (a ∷ b ∷ c ∷ []) rest long = absurd (omega arith)
+count_front (a ∷ b ∷ c ∷ d ∷ words) rest long = refl
 
-module _ (most : ℕ) (words : List ℕ) where
-  further : (i : ℕ) → drop (entry_words most) (words_left most words i) ≡ words_left most words (i + 1)
-  further i = drop-drop (entry_words most) (i * entry_words most) words ∙ ap (λ (n : ℕ). drop n words) (next_row i (entry_words most))
+lines_front : (words rest : List ℕ) → entry_words (units_of words) ≤ length words → lines_in (words ++ rest) ≡ lines_in words
+unfolding lines_in
+lines_front [] rest long = absurd (omega arith)
+lines_front (a ∷ []) rest long = absurd (omega arith)
+lines_front (a ∷ b ∷ []) rest long = absurd (omega arith)
+lines_front (a ∷ b ∷ c ∷ []) rest long = absurd (omega arith)
+lines_front (a ∷ b ∷ c ∷ d ∷ []) rest long = absurd (omega arith)
+lines_front (a ∷ b ∷ c ∷ d ∷ e ∷ []) rest long = absurd (omega arith)
+lines_front (a ∷ b ∷ c ∷ d ∷ e ∷ f ∷ words) rest long =
+    ap (λ (us : List ReportedUnit). head_line a b c d ++ unit_lines us) (units_front d words rest (omega arith))
 
-  pub entries_turn : (count i : ℕ) → i < count
-      → entries_left most words count i ≡ lines_in (words_left most words i) ++ entries_left most words count (i + 1)
-  unfolding all_lines_in
-  entries_turn count i more_left =
-      let one_less : count - i ≡ suc (count - (i + 1)) = omega arith in
-      ap (λ (n : ℕ). all_lines_in (entry_words most) n (words_left most words i)) one_less
-      ∙ ap (λ (rest : List ℕ). lines_in (words_left most words i) ++ all_lines_in (entry_words most) (count - (i + 1)) rest) (further i)
+-- The entry in front is taken off.
+module _ (most m : ℕ) (entry rest : List ℕ) (long : length entry ≡ entry_words most) where
+  splits : {k : ℕ} {all : List ℕ} → AllWhole most k all → k ≡ suc m → all ≡ entry ++ rest → Whole most entry × AllWhole most m rest
+  splits none same parted = absurd (omega arith)
+  splits {k = suc k} (more first later) same parted =
+      let count : units_of (entry ++ rest) ≡ units_of entry = count_front entry rest (omega (arith, long)) in
+      let fewer : k ≡ m = omega arith in (
+        record { few = subst (λ (u : ℕ). u ≤ most) (ap units_of parted ∙ count) first.few; there = omega (arith, long) },
+        subst (λ (j : ℕ). AllWhole most j rest) fewer
+            (subst (AllWhole most k) (ap (drop (entry_words most)) parted ∙ drop_at entry rest (entry_words most) long) later),
+      )
 
-  pub entries_end : (count i : ℕ) → count ≤ i → entries_left most words count i ≡ []
-  unfolding all_lines_in
-  entries_end count i none_left =
-      let nothing : count - i ≡ 0 = omega arith in
-      ap (λ (n : ℕ). all_lines_in (entry_words most) n (words_left most words i)) nothing
+  module _ {n : ℕ} {words : List ℕ} (one_less : m + 1 ≡ n) (parts : words ≡ entry ++ rest) (whole : AllWhole most n words) where
+    pub whole_first : Whole most entry
+    whole_first = (splits whole (omega arith) parts).0
 
-  module _ (count i : ℕ) (more_left : i < count) (whole : AllWhole most (count - i) (words_left most words i)) where
-    split : {left : ℕ} → AllWhole most (suc left) (words_left most words i)
-        → Whole most (words_left most words i) × AllWhole most left (words_left most words (i + 1))
-    split {left} (more first later) = (first, subst (AllWhole most left) (further i) later)
+    pub whole_later : AllWhole most m rest
+    whole_later = (splits whole (omega arith) parts).1
 
-    both : Whole most (words_left most words i) × AllWhole most (count - (i + 1)) (words_left most words (i + 1))
-    both =
-        let one_less : count - i ≡ suc (count - (i + 1)) = omega arith in
-        split (subst (λ (n : ℕ). AllWhole most n (words_left most words i)) one_less whole)
+    pub entries_turn : all_lines_in (entry_words most) n words ≡ lines_in entry ++ all_lines_in (entry_words most) m rest
+    unfolding all_lines_in
+    entries_turn =
+        let same : n ≡ suc m = omega arith in
+        let there : entry_words (units_of entry) ≤ length entry = omega (arith, long, whole_first.few) in
+        ap₂ (all_lines_in (entry_words most)) same parts
+        ∙ ap₂ ◌++◌ (lines_front entry rest there) (ap (all_lines_in (entry_words most) m) (drop_at entry rest (entry_words most) long))
 
-    pub whole_first : Whole most (words_left most words i)
-    whole_first = both.0
-
-    pub whole_later : AllWhole most (count - (i + 1)) (words_left most words (i + 1))
-    whole_later = both.1
-
-    -- as the part of a slice that is lent
-    pub whole_lent : Whole most (take (length words - i * entry_words most) (words_left most words i))
-    whole_lent = subst (Whole most) (sym (part_from (i * entry_words most) words)) whole_first
+-- no entry is left where there is no room for one
+pub entries_end : (most : ℕ) {n : ℕ} {words : List ℕ} → AllWhole most n words → (0 < n → length words < entry_words most) → n ≡ 0
+entries_end most none short = refl
+entries_end most (more first later) short = let less = short (omega arith) in absurd (omega (arith, first.there))

@@ -1,18 +1,19 @@
 // The lines of the listing (document 01, "Sample phrase"), from the words of entries, written on a page. Not by `write!`: std says what
 // that wrote where it answers `Ok`, and not that it does so where there is room, so `render`, which cannot fail, could not be proved.
 
-ghost use Rattle.std.specs.Prelude.{◌≡◌, ◌+◌, ◌*◌, ◌≤◌, length};
+ghost use Rattle.std.specs.Prelude.{◌≡◌, ◌+◌, ◌*◌, ◌≤◌, length, map};
 ghost use Rattle.text.specs.Inner.Puts.{Prints};
 ghost use Rattle.limits.specs.Sizes.{entry_words};
 ghost use Rattle.limits.specs.Capacity.{most_units};
 ghost use Rattle.printing.specs.Listing.{row_text, unit_line, unit_lines, pass_word, head_line};
-ghost use Rattle.printing.specs.Inner.InWords.{name_text, units_of, units_in, lines_in, all_lines_in, AllWhole};
+ghost use Rattle.printing.specs.Inner.InWords.{name_text, unit_in, units_of, lines_in, all_lines_in, AllWhole};
 ghost use Rattle.printing.specs.Rendered.{head_line_bytes, unit_line_bytes, entry_bytes};
 
 use limits::common::ABSENT;
 use limits::edition::{HEAD_WORDS, UNIT_WORDS};
 use text::Page;
 
+// The row is a word of the result, as the pass is below, and `ABSENT` is the C interface's number for none.
 fn put_row(page: &mut Page, row: u32)
     requires { page.old.len + 10 ≤ length page.old.bytes.now }
     ensures { Prints 10 page.old (row_text row) page.new }
@@ -75,15 +76,12 @@ fn put_head(page: &mut Page, id: u32, llr: u32, pass: u32, units: u32)
     page.put(b"\n");
 }
 
-// The units whose words stand at the front.
-fn put_units(page: &mut Page, words: &[u32], count: usize)
-    requires count_in_bounds { page.old.len + unit_line_bytes * count ≤ length page.old.bytes.now }
-    requires count_in_bounds_2 { 3 * count ≤ length words.now }
-    ensures { Prints (unit_line_bytes * count) page.old (unit_lines (units_in count words.now)) page.new }
+fn put_units(page: &mut Page, units: &[[u32; UNIT_WORDS]])
+    requires room { page.old.len + unit_line_bytes * length units.now ≤ length page.old.bytes.now }
+    ensures { Prints (unit_line_bytes * length units.now) page.old (unit_lines (map unit_in units.now)) page.new }
 {
-    for i in 0..count {
-        let unit = &words[UNIT_WORDS * i..];
-        put_unit(page, unit[0], unit[1], unit[2]);
+    for [start, end, row] in units {
+        put_unit(page, *start, *end, *row);
     }
 }
 
@@ -95,17 +93,19 @@ fn put_entry(page: &mut Page, words: &[u32])
 {
     let count = words[3];
     put_head(page, words[0], words[1], words[2], count);
-    put_units(page, &words[HEAD_WORDS..], count as usize);
+    let (units, _) = words[HEAD_WORDS..].as_chunks();
+    put_units(page, &units[..count as usize]);
 }
 
-// So many entries from the front on, each with room for `most` units.
+// So many entries from the front on, each with room for `most` units. The words are all that decoding was lent, and the count is what it
+// answered: a slice of the entries alone would have to be measured again for the first line.
 pub(crate) fn put_entries(page: &mut Page, words: &[u32], most: usize, count: usize)
     requires most_le_most_units { (most ≤ most_units) × (page.old.len + entry_bytes most_units * count ≤ length page.old.bytes.now) }
     requires all_whole { AllWhole most count words.now }
     ensures { Prints (entry_bytes most_units * count) page.old (all_lines_in (entry_words most) count words.now) page.new }
 {
     let size = HEAD_WORDS + UNIT_WORDS * most;
-    for i in 0..count {
-        put_entry(page, &words[i * size..]);
+    for entry in words.chunks_exact(size).take(count) {
+        put_entry(page, entry);
     }
 }

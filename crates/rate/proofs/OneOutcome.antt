@@ -15,12 +15,12 @@ use Rattle.limits.specs.Common.{last_frame}
 use Rattle.limits.specs.declared.refusal.Refusal.{Refusal}
 use Rattle.laws.proofs.Rules.{Fails, passed_over}
 use Rattle.frames.specs.Outcome.{refused, outcome, any_above, most_frames}
-use Rattle.frames.proofs.Outcomes.{refusing, refuses_exactly, one_answer}
+use Rattle.frames.proofs.Outcomes.{refusing, refuses_exactly, one_result}
 use Rattle.rate.specs.Rate.{rate_of}
 
 pub one_rate : (frames : List ℕ) (default : Float) → ExactlyOne (λ (answer : Result Float Refusal). outcome answer ≡ rate_of frames default)
 unfolding rate_of
-one_rate frames default = one_answer _ _ (each_more (refusing 3 refl) (each_more (refusing 5 refl) (each_more (refusing 6 refl) each_none)))
+one_rate frames default = one_result _ _ (each_more (refusing 3 refl) (each_more (refusing 5 refl) (each_more (refusing 6 refl) each_none)))
 
 -- the two rules that stand before 6
 abbrev early : List ℕ → List (Rule ℕ)

@@ -2,6 +2,8 @@
 
 #![tactic(auto)]
 
+mod ascending;
 pub mod duration;
+mod few_frames;
 mod gaps;
 mod order;

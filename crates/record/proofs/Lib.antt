@@ -1,6 +1,6 @@
--- Laws for those above: what a check answers (Answers), under which conditions (Given) and by which number (Named), what its rules leave
--- (Sizes, Entries), what every accepted record has (Accepted) and where its sections stand (Reading), tests at the numbers below a count
--- (Below), numbers that are read where they stand (Numbers), written and read back (ReadBack). The others are steps on the way.
+-- Laws for those above: what a check answers (Answers) and under which conditions (Given), what its rules leave (Sizes, Entries), what every
+-- accepted record has (Accepted) and where its sections stand (Reading), tests at the numbers below a count (Below), numbers that are read
+-- where they stand (Numbers), written and read back (ReadBack). The others are steps on the way.
 pub mod Sizes
 pub mod Below
 pub mod Entries
@@ -9,7 +9,6 @@ mod Fits
 pub mod Accepted
 pub mod Answers
 pub mod Given
-pub mod Named
 pub mod Reading
 pub mod Numbers
 pub mod ReadBack

@@ -1,5 +1,5 @@
 -- Where the sections of an accepted record stand, and what stands there: laws for its readers.
-use Prim.Native.Nat.{ℕ, ◌+◌, ◌*◌, ◌≤◌, ◌<◌}
+use Prim.Native.Nat.{ℕ, ◌≤◌, ◌<◌}
 use mathlib.Core.Bool.{Bool, false, not}
 use mathlib.Core.List.{List, [], ◌∷◌}
 use mathlib.Core.Option.{none}
@@ -20,7 +20,6 @@ use Rattle.ieee.specs.Inner.Value as Fine
 use Rattle.phrase.specs.Phrase.{Phrase}
 use Rattle.record.specs.Inner.Bounds.{Reaching, Within, CandidatesRead}
 use Rattle.limits.specs.Common.{shortest_unit, longest_unit, largest_figure}
-use Rattle.record.specs.Format.{table_bytes}
 use Rattle.record.specs.Layout.{trailer_start, trailer_of, layout_from, layout_of, limits_of, limits_at}
 use Rattle.record.specs.Conditions.{overreaching}
 use Rattle.record.specs.Refusals.{trailer_rules}
@@ -84,14 +83,6 @@ module _ {bytes : List ℕ} {at : Layout} (h : Laid bytes at) where
 -- ---- stages
 
 module _ {bytes : List ℕ} {at : Layout} (h : Laid bytes at) where
-  pub anchors_within : (which : Which) → (anchor_section which at).start + 4 * (anchor_section which at).count ≤ length bytes
-  anchors_within Nuclei = (sections h).nuclei
-  anchors_within Count = (sections h).added_anchors
-
-  pub boundaries_within : (which : Which) → (boundary_section which at).start + 4 * (boundary_section which at).count ≤ length bytes
-  boundaries_within Nuclei = (sections h).boundaries
-  boundaries_within Count = (sections h).added_boundaries
-
   pub anchors_are : (which : Which) → frames_at bytes (anchor_section which at) ≡ (stage_of which (phrase_of bytes)).anchors
   unfolding phrase_at
   anchors_are Nuclei = ap (λ (p : Phrase). p.nuclei.anchors) (meaning h)
@@ -101,10 +92,6 @@ module _ {bytes : List ℕ} {at : Layout} (h : Laid bytes at) where
   unfolding phrase_at
   boundaries_are Nuclei = ap (λ (p : Phrase). p.nuclei.boundaries) (meaning h)
   boundaries_are Count = ap (λ (p : Phrase). p.added.boundaries) (meaning h)
-
-  pub table_within : (which : Which) → table_start which at + table_bytes ≤ length bytes
-  table_within Nuclei = omega (arith, (sections h).costs)
-  table_within Count = omega (arith, (sections h).costs)
 
   pub duration_is : (which : Which) (frames : ℕ) → duration_at bytes (table_start which at) frames ≡ (stage_of which (phrase_of bytes)).duration frames
   unfolding phrase_at

@@ -1,28 +1,18 @@
 -- What follows where conditions 3 and 4 do not hold.
-use Prim.Native.Nat.{ℕ, ◌+◌, ◌-◌, ◌*◌, ◌≤◌}
+use Prim.Native.Nat.{ℕ, ◌+◌, ◌-◌, ◌≤◌}
 use mathlib.Core.Bool.{false, ◌&&◌}
 use mathlib.Core.Path.{◌≡◌}
-use native.Mathlib.Nat.{mul-le-mul}
 use native.Mathlib.Omega.{arith}
 use borrow.Author.Tests.{ltb-false, eq-eqb}
 use lib.Dec.{eqb, ltb}
 use Rattle.laws.proofs.Numbers.{not_zero}
 use Rattle.laws.proofs.Choices.{neither_left, neither_right, and_fails}
-use Rattle.limits.specs.Inner.Moderate.{Moderate, most_count}
-use Rattle.limits.specs.Capacity.{most_anchors, most_units}
-use Rattle.limits.specs.Sizes.{columns_at, candidate_bytes}
+use Rattle.limits.specs.Inner.Moderate.{Moderate}
 use Rattle.record.specs.Inner.Bounds.{Sized, Reaches, Reaching, Inside, Within, CandidatesRead}
 use Rattle.record.specs.Layout.{layout_from}
 use Rattle.record.specs.Conditions.{oversized, outside, overreaching}
 use Rattle.limits.specs.declared.edition.Limits.{Limits}
 use Rattle.record.specs.declared.trailer.Trailer.{Trailer}
-
--- the most a score section and a candidate section have in an edition of moderate numbers
-pub scores_most : {l : Limits} {t : Trailer} → Moderate l → Sized l t → (t.nuclei.count + t.added_anchors.count) * t.scores.count ≤ 2 * most_anchors * most_count
-scores_most m s = mul-le-mul {n₂ = 2 * most_anchors} {m₂ = most_count} (omega arith) (omega arith)
-
-pub candidates_most : {l : Limits} {t : Trailer} → Moderate l → Sized l t → candidate_bytes l * t.candidates.count ≤ (columns_at + most_units) * most_count
-candidates_most m s = mul-le-mul {n₂ = columns_at + most_units} {m₂ = most_count} (omega arith) (omega arith)
 
 pub sized : (l : Limits) (t : Trailer) → oversized l t ≡ false → Sized l t
 unfolding oversized

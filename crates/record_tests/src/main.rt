@@ -8,31 +8,18 @@
 
 #![tactic(auto)]
 
+ghost use Rattle.std.specs.Prelude.{◌≡◌, ◌≤◌, ◌-◌, length};
+
 use checks::{check, check_areas};
-use limits::refusal::Refusal;
-use record::layout::Layout;
 use std::io;
 use whole_input::read_full;
+use whole_input::words::Words;
 
 // More bytes than the input has.
 const MOST_INPUT: usize = 65536;
 
 // The longest record of a case.
 const MOST: usize = 65540;
-
-// The bytes of a case before its changes, and of a change.
-const CASE_BYTES: usize = 28;
-
-const CHANGE_BYTES: usize = 8;
-
-// A word by its place in bytes; 0 past the end.
-fn word(input: &[u8], at: usize) -> u32 {
-    let Some(rest) = input.get(at..) else {
-        return 0;
-    };
-    rest.first_chunk()
-        .map_or(0, |word| u32::from_le_bytes(*word))
-}
 
 // What a case says before its changes.
 #[derive(Clone, Copy)]
@@ -46,81 +33,78 @@ struct Case {
     changes: u32,
 }
 
-fn case_of(words: &[u8]) -> Case {
-    Case {
-        long: word(words, 0),
-        base: word(words, 4),
-        base_long: word(words, 8),
-        best: word(words, 12),
-        back: word(words, 16),
-        out: word(words, 20),
-        changes: word(words, 24),
+impl Case {
+    fn read(words: &mut Words) -> Case
+        ensures { length words.new.left.now ≡ length words.old.left.now - 28 }
+    {
+        Case {
+            long: words.word(),
+            base: words.word(),
+            base_long: words.word(),
+            best: words.word(),
+            back: words.word(),
+            out: words.word(),
+            changes: words.word(),
+        }
+    }
+
+    // The byte at a place counted from the last: of the base, or 0 before it.
+    fn base_byte(&self, input: &[u8], place: usize) -> u8 {
+        let base_long = self.base_long as usize;
+        if place >= base_long {
+            return 0;
+        }
+        let at = self.base as usize + (base_long - 1 - place);
+        input.get(at).copied().unwrap_or(0)
+    }
+
+    fn lay(&self, input: &[u8], record: &mut [u8]) {
+        for (place, byte) in record.iter_mut().rev().enumerate() {
+            *byte = self.base_byte(input, place);
+        }
+    }
+
+    // A place is counted from the last byte, and one before the record changes nothing.
+    fn change(&self, words: &mut Words, record: &mut [u8])
+        ensures { length words.new.left.now ≤ length words.old.left.now }
+    {
+        for _ in 0..self.changes {
+            let place = words.word() as usize;
+            let value = (words.word() % 256) as u8;
+            if let Some(byte) = record.iter_mut().rev().nth(place) {
+                *byte = value;
+            }
+        }
+    }
+
+    // An accepted record is printed as 0, which is no refusal's number: each line has two numbers.
+    fn report(&self, rt: &impl Print, record: &[u8]) -> io::Result<()> {
+        let lent = check_areas(
+            record,
+            self.best as usize,
+            self.back as usize,
+            self.out as usize,
+        );
+        let without = check(record).err().map_or(0, u32::from);
+        let with = lent.err().map_or(0, u32::from);
+        println!(rt; "{without} {with}")
     }
 }
 
-// The byte at a place counted from the last: of the base, or 0 before it.
-fn base_byte(input: &[u8], case: Case, place: usize) -> u8 {
-    let base_long = case.base_long as usize;
-    if place >= base_long {
-        return 0;
-    }
-    let at = case.base as usize + (base_long - 1 - place);
-    input.get(at).copied().unwrap_or(0)
-}
-
-fn lay(input: &[u8], case: Case, record: &mut [u8]) {
-    for (place, byte) in record.iter_mut().rev().enumerate() {
-        *byte = base_byte(input, case, place);
-    }
-}
-
-// Sets the byte at a place counted from the last; a place before the record changes nothing.
-fn put(record: &mut [u8], place: usize, value: u8) {
-    if place < record.len() {
-        let at = record.len() - 1 - place;
-        record[at] = value;
-    }
-}
-
-fn change(words: &[u8], changes: u32, record: &mut [u8]) {
-    for j in 0..changes as usize {
-        let at = CASE_BYTES + CHANGE_BYTES * j;
-        let place = word(words, at) as usize;
-        let value = word(words, at + 4) % 256;
-        put(record, place, value as u8);
-    }
-}
-
-fn number(checked: Result<Layout, Refusal>) -> u32 {
-    match checked {
-        Err(refusal) => u32::from(refusal),
-        Ok(_) => 0,
-    }
-}
-
-fn report(rt: &impl Print, record: &[u8], case: Case) -> io::Result<()> {
-    let without = number(check(record));
-    let with = number(check_areas(
-        record,
-        case.best as usize,
-        case.back as usize,
-        case.out as usize,
-    ));
-    println!(rt; "{without} {with}")
-}
-
-// The first word says where the cases start.
+// The first word says where the cases start. An iterator of them would have to give up its words to each case for the changes, and
+// need a law that it ends.
 fn run_all(rt: &impl Print, input: &[u8], space: &mut [u8]) -> io::Result<()> {
-    let mut cases = input.get(word(input, 0) as usize..).unwrap_or(&[]);
-    while !cases.is_empty() {
-        let case = case_of(cases);
+    let start = Words { left: input }.word() as usize;
+    let mut words = Words {
+        left: input.get(start..).unwrap_or(&[]),
+    };
+    while !words.left.is_empty() {
+        let case = Case::read(&mut words);
         let long = space.len().min(case.long as usize);
         let record = &mut space[..long];
-        lay(input, case, record);
-        change(cases, case.changes, record);
-        report(rt, record, case)?;
-        let end = CASE_BYTES + CHANGE_BYTES * case.changes as usize;
-        cases = cases.get(end..).unwrap_or(&[]);
+        case.lay(input, record);
+        case.change(&mut words, record);
+        case.report(rt, record)?;
     }
     Ok(())
 }

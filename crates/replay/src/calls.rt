@@ -1,9 +1,10 @@
 // The entries that take no record. A case has its figures, and its lists or masks.
 
 use crate::case::Case;
-use crate::input::{float, word};
+use crate::input::{float, list};
 use crate::marks::{Cell, not_written};
 use tikuwero::{tikuwero_creaky_tail, tikuwero_joins, tikuwero_rate_s, tikuwero_tbu_spans};
+use whole_input::words::Words;
 
 // More than the longest list, and more words than its spans have.
 const MOST_FRAMES: usize = 80;
@@ -12,18 +13,18 @@ const MOST_OUT: usize = 140;
 
 fn rate_or_mark(case: Case) -> f64 {
     match case.answer {
-        Ok(_) => float(word(case.body, 0), word(case.body, 4)),
+        Ok(_) => float(&mut Words { left: case.written }),
         Err(_) => f64::MARK,
     }
 }
 
 // How many frames, the default, the frames.
 pub(crate) fn rate_s(case: Case) -> bool {
-    let mut arguments = case.arguments();
+    let mut arguments = case.arguments;
     let count = arguments.word();
-    let default_s = arguments.float();
+    let default_s = float(&mut arguments);
     let mut cells = [0u32; MOST_FRAMES];
-    let frames = arguments.list(count, &mut cells);
+    let frames = list(&mut arguments, count, &mut cells);
     let mut rate = f64::MARK;
     let returned = tikuwero_rate_s(frames, default_s, &mut rate);
     case.returns(returned) && rate.same(rate_or_mark(case))
@@ -31,24 +32,24 @@ pub(crate) fn rate_s(case: Case) -> bool {
 
 // How many nuclei, how many boundaries, the words of the output, the edges, the nuclei, the boundaries.
 pub(crate) fn tbu_spans(case: Case) -> bool {
-    let mut arguments = case.arguments();
+    let mut arguments = case.arguments;
     let nucleus_count = arguments.word();
     let bound_count = arguments.word();
     let room = (arguments.word() as usize).min(MOST_OUT);
     let lo_edge = arguments.word();
     let hi_edge = arguments.word();
     let mut nucleus_cells = [0u32; MOST_FRAMES];
-    let nuclei = arguments.list(nucleus_count, &mut nucleus_cells);
+    let nuclei = list(&mut arguments, nucleus_count, &mut nucleus_cells);
     let mut bound_cells = [0u32; MOST_FRAMES];
-    let bounds = arguments.list(bound_count, &mut bound_cells);
+    let bounds = list(&mut arguments, bound_count, &mut bound_cells);
     let mut out = [u32::MARK; MOST_OUT];
     let returned = tikuwero_tbu_spans(nuclei, bounds, lo_edge, hi_edge, &mut out[..room]);
-    case.returns(returned) && !not_written(&out, case.body, case.words)
+    case.returns(returned) && !not_written(&out, case.written)
 }
 
 // How long the voice mask is, the edges; the voice mask, and up to the end the pitch mask.
 pub(crate) fn joins(case: Case) -> bool {
-    let mut arguments = case.arguments();
+    let mut arguments = case.arguments;
     let len = arguments.word();
     let start = arguments.word();
     let end = arguments.word();
@@ -58,7 +59,7 @@ pub(crate) fn joins(case: Case) -> bool {
 
 // How long the pitch mask is, the edges, the next nucleus; the pitch mask, and up to the end that of vowel speech.
 pub(crate) fn creaky_tail(case: Case) -> bool {
-    let mut arguments = case.arguments();
+    let mut arguments = case.arguments;
     let len = arguments.word();
     let start = arguments.word();
     let end = arguments.word();

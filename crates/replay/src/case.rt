@@ -1,9 +1,11 @@
 // A stored case: which entry it calls, what the call is to answer, and its arguments.
 
-use crate::input::{Arguments, float, word};
-use std::io;
+ghost use Rattle.std.specs.Prelude.{◌+◌, ◌≤◌, length, IfOk, IfSome};
+
 use std::io::Read;
+use std::{fmt, io};
 use whole_input::read_full;
+use whole_input::words::Words;
 
 // An entry of the C interface.
 #[derive(Clone, Copy)]
@@ -14,6 +16,19 @@ pub(crate) enum Entry {
     Joins,
     CreakyTail,
     MostUnits,
+}
+
+impl fmt::Display for Entry {
+    fn fmt<W: fmt::Write>(&self, f: &mut fmt::Formatter<W>) -> fmt::Result {
+        f.write_str(match self {
+            Entry::Decode => "decode",
+            Entry::RateS => "rate_s",
+            Entry::TbuSpans => "tbu_spans",
+            Entry::Joins => "joins",
+            Entry::CreakyTail => "creaky_tail",
+            Entry::MostUnits => "most_units",
+        })
+    }
 }
 
 // A number that names no entry.
@@ -36,14 +51,14 @@ impl TryFrom<u32> for Entry {
     }
 }
 
-// The body has the words that the call leaves in lent memory, so many, and then its arguments.
 #[derive(Clone, Copy)]
 pub(crate) struct Case<'a> {
     pub(crate) entry: Result<Entry, UnknownEntry>,
-    // What is to be returned, or the number of the refusal.
+    // What is to be returned, or the number of the refusal, a number of the input: it is compared, and no refusal is told from another.
     pub(crate) answer: Result<u32, u32>,
-    pub(crate) words: u32,
-    pub(crate) body: &'a [u8],
+    // The words that the call leaves in lent memory.
+    pub(crate) written: &'a [u8],
+    pub(crate) arguments: Words<'a>,
 }
 
 impl<'a> Case<'a> {
@@ -55,42 +70,40 @@ impl<'a> Case<'a> {
         };
         i64::from(status) == wanted
     }
-
-    pub(crate) fn arguments(&self) -> Arguments<'a> {
-        let words = self.body.len().min(4 * (self.words as usize));
-        Arguments {
-            left: &self.body[words..],
-        }
-    }
 }
 
-// Reads the next case. An input that ends within a case ends before it.
+// Reads the next case. An input that ends within a case ends before it, and so does one with a case that is shorter than its words.
 pub(crate) fn next_case<'a, R: Read>(
     stored: &mut R,
     space: &'a mut [u8],
-) -> io::Result<Option<Case<'a>>> {
+) -> io::Result<Option<Case<'a>>>
+    ensures { IfOk result (λ found. IfSome found (λ case. length case.written.now + length case.arguments.left.now ≤ length space.old)) }
+{
     let mut head = [0u8; 20];
-    if read_full(stored, &mut head)? < 20 {
+    if read_full(stored, &mut head)? < head.len() {
         return Ok(None);
     }
-    let len = word(&head, 4) as usize;
-    if len > space.len() {
+    let mut head = Words { left: &head };
+    let entry = Entry::try_from(head.word());
+    let len = head.word() as usize;
+    let refusal = head.word();
+    let returned = head.word();
+    let words = head.word() as usize;
+    let Some(body) = space.get_mut(..len) else {
+        return Ok(None);
+    };
+    if read_full(stored, body)? < len || len < 4 * words {
         return Ok(None);
     }
-    let body = &mut space[..len];
-    if read_full(stored, body)? < len {
-        return Ok(None);
-    }
-    let refusal = word(&head, 8);
-    let returned = word(&head, 12);
+    let (written, left) = body.split_at(4 * words);
     Ok(Some(Case {
-        entry: Entry::try_from(word(&head, 0)),
+        entry,
         answer: if refusal == 0 {
             Ok(returned)
         } else {
             Err(refusal)
         },
-        words: word(&head, 16),
-        body,
+        written,
+        arguments: Words { left },
     }))
 }

@@ -14,7 +14,7 @@ const MOST_OUT: usize = 880;
 
 // Decodes with buffers of the case's lengths, and compares what is returned and every cell.
 pub(crate) fn decode(case: Case, record: &mut [u8]) -> bool {
-    let mut arguments = case.arguments();
+    let mut arguments = case.arguments;
     let len = arguments.word() as usize;
     let best_len = (arguments.word() as usize).min(MOST_WORK);
     let back_len = (arguments.word() as usize).min(MOST_WORK);
@@ -34,5 +34,5 @@ pub(crate) fn decode(case: Case, record: &mut [u8]) -> bool {
     case.returns(returned)
         && !not_cleared(&best, used)
         && !not_cleared(&back, used)
-        && !not_written(&out, case.body, case.words)
+        && !not_written(&out, case.written)
 }

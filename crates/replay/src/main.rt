@@ -33,12 +33,22 @@ const MOST_PRINTED: u32 = 5;
 // Of an entry's cases, how many there are, how many are refused, and how many agree.
 #[derive(Clone, Copy)]
 struct Tally {
+    entry: Entry,
     replayed: u32,
     refused: u32,
     agree: u32,
 }
 
 impl Tally {
+    fn of(entry: Entry) -> Tally {
+        Tally {
+            entry,
+            replayed: 0,
+            refused: 0,
+            agree: 0,
+        }
+    }
+
     fn count(&mut self, refused: bool, agrees: bool) {
         self.replayed = self.replayed.saturating_add(1);
         self.refused = self.refused.saturating_add(u32::from(refused));
@@ -46,72 +56,85 @@ impl Tally {
     }
 }
 
-fn agrees(entry: Entry, case: Case, record: &mut [u8]) -> bool {
-    match entry {
-        Entry::Decode => decodings::decode(case, record),
-        Entry::RateS => calls::rate_s(case),
-        Entry::TbuSpans => calls::tbu_spans(case),
-        Entry::Joins => calls::joins(case),
-        Entry::CreakyTail => calls::creaky_tail(case),
-        Entry::MostUnits => counting::most_units(case, record),
+// What goes from case to case: the record that the pieces of each are laid over, and the tallies of the entries, in their order.
+#[derive(Drop)]
+struct Replay<'a> {
+    record: &'a mut [u8],
+    tallies: [Tally; 6],
+}
+
+impl<'a> Replay<'a> {
+    fn over(record: &'a mut [u8]) -> Replay<'a> {
+        let entries = [
+            Entry::Decode,
+            Entry::RateS,
+            Entry::TbuSpans,
+            Entry::Joins,
+            Entry::CreakyTail,
+            Entry::MostUnits,
+        ];
+        Replay {
+            record,
+            tallies: entries.map(Tally::of),
+        }
+    }
+
+    // An entry's step as a closure beside its tally would be six types in one array, and so six boxes, or pointers that the gate refuses.
+    fn agrees(&mut self, entry: Entry, case: Case) -> bool {
+        match entry {
+            Entry::Decode => decodings::decode(case, self.record),
+            Entry::RateS => calls::rate_s(case),
+            Entry::TbuSpans => calls::tbu_spans(case),
+            Entry::Joins => calls::joins(case),
+            Entry::CreakyTail => calls::creaky_tail(case),
+            Entry::MostUnits => counting::most_units(case, self.record),
+        }
+    }
+
+    // Whether the case agrees, counted for its entry. A case of no known entry agrees with nothing.
+    fn replay(&mut self, case: Case) -> bool {
+        let Ok(entry) = case.entry else {
+            return false;
+        };
+        let agrees = self.agrees(entry, case);
+        self.tallies[entry as usize].count(case.answer.is_err(), agrees);
+        agrees
     }
 }
 
-// Whether the case agrees, counted for its entry. A case of no known entry agrees with nothing.
-fn replay(case: Case, record: &mut [u8], tallies: &mut [Tally; 6]) -> bool {
-    let Ok(entry) = case.entry else {
-        return false;
-    };
-    let agrees = agrees(entry, case, record);
-    tallies[entry as usize].count(case.answer.is_err(), agrees);
-    agrees
-}
-
-// Replays case after case, up to the end of the input.
+// Replays case after case, up to the end of the input. No contract says that a reader ends, so `while let` would not be known to end:
+// hence `MOST_CASES`.
 fn replay_all(
     rt: &(impl Input + Print),
     body: &mut [u8],
     record: &mut [u8],
 ) -> io::Result<[Tally; 6]> {
-    let none = Tally {
-        replayed: 0,
-        refused: 0,
-        agree: 0,
-    };
-    let mut tallies = [none; 6];
+    let mut replay = Replay::over(record);
     let mut stored = rt.reader();
     let mut printed = 0;
     for number in 1..=MOST_CASES {
         let Some(case) = next_case(&mut stored, body)? else {
             break;
         };
-        if !replay(case, record, &mut tallies) && printed < MOST_PRINTED {
+        if !replay.replay(case) && printed < MOST_PRINTED {
             println!(rt; "case {number} differs")?;
             printed += 1;
         }
     }
-    Ok(tallies)
+    Ok(replay.tallies)
 }
 
 fn main(rt: HostRuntime) -> io::Result<()> {
     let mut body = [0u8; MOST_BODY];
     let mut record = [0u8; MOST_RECORD];
-    let tallies = replay_all(&rt, &mut body, &mut record)?;
-    let names = [
-        "decode",
-        "rate_s",
-        "tbu_spans",
-        "joins",
-        "creaky_tail",
-        "most_units",
-    ];
-    for (name, tally) in names.iter().zip(&tallies) {
+    for tally in &replay_all(&rt, &mut body, &mut record)? {
         let Tally {
+            entry,
             replayed,
             refused,
             agree,
         } = *tally;
-        println!(rt; "{name}: {replayed} replayed, {refused} of them refused, {agree} agree")?;
+        println!(rt; "{entry}: {replayed} replayed, {refused} of them refused, {agree} agree")?;
     }
     Ok(())
 }

@@ -1,11 +1,11 @@
 // What lent memory holds before a call, a mark in every cell, and what it is to hold afterwards.
 
-ghost use Rattle.std.specs.Prelude.{◌||◌, ◌≡◌, Float, Bool, eqb, ltb, length};
+ghost use Rattle.std.specs.Prelude.{◌||◌, ◌≡◌, ◌/◌, Float, Bool, eqb, ltb, length};
 ghost use Rattle.std.specs.Float.{nan, binary64};
 ghost use Rattle.std.specs.Float.Ieee.{of_bits};
 ghost use Rattle.replay.specs.Marks.{mark, float_mark, zero_or_mark, word_or_mark, unlike, same_float};
 
-use crate::input::word;
+use whole_input::words::Words;
 
 // A cell of lent memory: its mark, and when two are the same.
 pub(crate) trait Cell: Copy {
@@ -80,23 +80,26 @@ pub(crate) fn not_cleared<T: Cell>(cells: &[T], count: usize) -> bool
         .any(|(i, cell)| !cell.same(zero_or_mark(i, count)))
 }
 
-fn word_or_mark(body: &[u8], i: usize, count: u32) -> u32
-    ensures { result ≡ word_or_mark body.now count i }
+fn word_or_mark(written: &[u8], i: usize) -> u32
+    ensures { result ≡ word_or_mark written.now (length written.now / 4) i }
 {
-    if i < count as usize {
-        word(body, 4 * i)
+    if i < written.len() / 4 {
+        let mut words = Words {
+            left: &written[4 * i..],
+        };
+        words.word()
     } else {
         u32::MARK
     }
 }
 
-// Whether some cell is not as it should be: the case's first words, so many, and the mark in the other cells.
-pub(crate) fn not_written(cells: &[u32], body: &[u8], count: u32) -> bool
-    ensures { result ≡ (ltb (length cells.now) count || unlike eqb 0 (word_or_mark body.now count) cells.now) }
+// Whether some cell is not as it should be: the case's words in the first cells, and the mark in the others.
+pub(crate) fn not_written(cells: &[u32], written: &[u8]) -> bool
+    ensures { result ≡ (ltb (length cells.now) (length written.now / 4) || unlike eqb 0 (word_or_mark written.now (length written.now / 4)) cells.now) }
 {
-    cells.len() < count as usize
+    cells.len() < written.len() / 4
         || cells
             .iter()
             .enumerate()
-            .any(|(i, cell)| !cell.same(word_or_mark(body, i, count)))
+            .any(|(i, cell)| !cell.same(word_or_mark(written, i)))
 }

@@ -1,6 +1,6 @@
 // The record of a case, in pieces. A piece is a place, a length and so many bytes, laid over the record of the case before.
 
-use crate::input::Arguments;
+use whole_input::words::Words;
 
 // Lays bytes over the record from a place on, as far as there is room.
 fn lay_piece(bytes: &[u8], record: &mut [u8], place: usize) {
@@ -10,8 +10,8 @@ fn lay_piece(bytes: &[u8], record: &mut [u8], place: usize) {
     }
 }
 
-// The pieces up to the end of the case.
-pub(crate) fn lay(mut pieces: Arguments, record: &mut [u8]) {
+// The pieces up to the end of the case. An iterator of them would need a law that it ends; here what is left gets shorter.
+pub(crate) fn lay(mut pieces: Words, record: &mut [u8]) {
     while !pieces.left.is_empty() {
         let place = pieces.word() as usize;
         let len = pieces.word();

@@ -13,24 +13,22 @@ use lib.Ieee.Fits.{and_i}
 use lib.ListN.{length, get_or}
 use borrow.Author.Tests.{le-leb, lt-leb, lt-ltb, le-ltb}
 use Rattle.laws.proofs.Numbers.{by_order}
-use Rattle.phrase.specs.declared.costs.Costs.{Costs}
-use Rattle.paths.specs.declared.passes.Strictness.{Strictness}
-use Rattle.paths.specs.declared.passes.Strictness.TheVariants.{Strict, Relaxed}
 use Rattle.paths.specs.Problem.{Problem}
 use Rattle.paths.specs.Cell.{Cell, empty, held, keep, carry}
 use Rattle.paths.specs.CellRule.{sweep}
 use Rattle.paths.specs.Inner.Marks.{Marked, marks}
 use Rattle.paths.specs.Inner.Ranges.{in_range, arrives_from}
-use Rattle.limits.specs.Common.{shortest_unit}
-use Rattle.limits.specs.Capacity.{most_boundaries}
-use Rattle.stages.specs.Lists.{bounds_at, lows_at, middles_at, highs_at, gaps_at}
+use Rattle.stages.specs.Tables.{entry_by}
+use Rattle.stages.specs.declared.stage_tables.StageTables.{StageTables}
+use Rattle.rows.specs.declared.inputs.RowInputs.{RowInputs}
 use Rattle.rows.specs.declared.way.Way.{Way}
 use Rattle.rows.specs.declared.way.Way.TheVariants.{Gap, Unit}
 use Rattle.rows.specs.Ways.{Markable, marked_by, or_later, or_each}
-use Rattle.rows.specs.Reads.{WholeLists, UnitRead, origins_to, unit_way, units_kept}
+use Rattle.rows.specs.Reads.{UnitRead, unit_way, units_kept}
 use Rattle.rows.specs.Rows.{Row, GapsOf, first}
-use Rattle.rows.specs.Units.{RowTables, row_tables, frame_at, low_at, middle_at, end_at, score_at, UnitsOf, Ordered, ReachedFrom, Begins, arrivals, next_cells, CellOf}
-use Rattle.rows.proofs.Lists.{table_at_law, duration_at_law}
+use Rattle.rows.specs.Units.{RowTables, frame_at, low_at, middle_at, end_at, score_at, UnitsOf, ReachedFrom, Begins, arrivals, next_cells, CellOf}
+use Rattle.rows.specs.Inputs.{tables_by}
+use Rattle.rows.proofs.Tables.{end_at_law}
 use Rattle.rows.proofs.Cells.{higher, or_keeps, or_markable, row_held, row_empty}
 use Rattle.rows.proofs.Arrivals.{brought, Idle, Arrives, brought_none, brought_past, brought_first, brought_each, sweep_first}
 
@@ -86,70 +84,58 @@ module _ {q : Problem} {s : ℕ} {t : RowTables} {n : ℕ} (before : ℕ) (of : 
 
 -- ---- the units of a range
 
-module _ (n : ℕ) (words : List ℕ) (figures : List Float) (score : ℕ → Float) (costs : Costs) (strictness : Strictness)
-    (lent : WholeLists words figures) (few : n ≤ most_boundaries)
-    (ordered : Ordered (row_tables n words figures score costs strictness) n) (j : ℕ) (within : j < n) where
+module _ (inputs : RowInputs) (j : ℕ) (within : j < inputs.n) where
+  abbrev n : ℕ
+  n = inputs.n
+
+  abbrev laid : StageTables
+  laid = inputs.tables.now
+
   abbrev t : RowTables
-  t = row_tables n words figures score costs strictness
+  t = tables_by inputs
 
-  frame_is : (i : ℕ) → i < n → frame_at t i ≡ get_or words i 0
-  frame_is i h = table_at_law bounds_at words i 0 (omega arith) ∙ ap (λ (at : ℕ). get_or words at 0) (omega arith)
+  pub end_is : entry_by laid.words.origins.ends inputs.strictness j ≡ end_at t j
+  end_is = sym (end_at_law n laid.words laid.figures inputs.strictness j)
 
-  pub low_is : low_at t j ≡ get_or words (lows_at + j) 0
-  low_is = table_at_law lows_at words j 0 (omega arith)
-
-  pub middle_is : middle_at t j ≡ get_or words (middles_at + j) 0
-  middle_is = table_at_law middles_at words j 0 (omega arith)
-
-  pub end_is : end_at t j ≡ origins_to words strictness j
-  end_is = go strictness
-    where
-      go : (x : Strictness) → end_at (row_tables n words figures score costs x) j ≡ origins_to words x j
-      go Strict = table_at_law middles_at words j 0 (omega arith)
-      go Relaxed = table_at_law highs_at words j 0 (omega arith)
-
-  pub middle_inside : get_or words (middles_at + j) 0 ≤ origins_to words strictness j
-  middle_inside = omega (arith, middle_is, end_is, ordered.inside j within)
+  pub middle_inside : middle_at t j ≤ end_at t j
+  middle_inside = inputs.ordered.inside j within
 
   module _ (best : List Float) (long : n + n ≤ length best) (low end : ℕ) (from : low_at t j ≤ low) (to : end ≡ end_at t j) where
     ranged : (i : ℕ) → low ≤ i → i < end → T (in_range (low_at t j) (end_at t j) i)
     ranged i h k = and_i (leb (low_at t j) i) (ltb i (end_at t j)) (le→leb (low_at t j) i (omega arith)) (lt→ltb i (end_at t j) (omega arith))
 
     earlier : (i : ℕ) → i < end → i < j
-    earlier i h = omega (arith, ordered.earlier j within)
+    earlier i h = omega (arith, inputs.ordered.earlier j within)
 
     -- each unit of the range can be read
-    pub unit_read : (i : ℕ) → low ≤ i → i < end → UnitRead best words figures (get_or words j 0) i
+    pub unit_read : (i : ℕ) → low ≤ i → i < end → UnitRead best laid (frame_at t j) i
     unit_read i h k =
         let before = earlier i k in
-        let fits = ordered.fits i j within (ranged i h k) in
-        let here = frame_is j within in
-        let there = frame_is i (omega arith) in
+        let fits = inputs.ordered.fits i j within (ranged i h k) in
         record {
           placed = omega arith;
-          listed = omega (arith, lent.worded);
+          listed = omega arith;
           shortest = omega (arith, fits.0);
-          longest = omega (arith, fits.0, fits.1, lent.figured);
+          longest = omega (arith, fits.0, fits.1);
         }
 
-    way_markable : (voice : Float) (i : ℕ) → i < end → Markable (unit_way best words figures (get_or words j 0) voice i)
+    way_markable : (voice : Float) (i : ℕ) → i < end → Markable (unit_way best laid (frame_at t j) voice i)
     way_markable voice i h = let before = earlier i h in omega arith
 
     -- the first origin whose unit holds no anchor
     abbrev middle : ℕ
-    middle = get_or words (middles_at + j) 0
+    middle = middle_at t j
 
     abbrev rest : ℕ
     rest = max (low + 1) middle
 
-    pub units_markable : low < end → (voice : Float) → Markable (units_kept best words figures voice costs j low end)
+    pub units_markable : low < end → (voice : Float) → Markable (units_kept best laid voice inputs.costs j low end)
     unfolding units_kept
     units_markable some voice =
-        let bare = costs.«unvoiced» in
+        let bare = inputs.costs.«unvoiced» in
         let inside = middle_inside in
-        let is = end_is in
-        each_markable (unit_way best words figures (get_or words j 0) bare) (end - rest) rest _
-        (each_markable (unit_way best words figures (get_or words j 0) (cond (ltb low middle) voice bare)) (middle - (low + 1)) (low + 1) _
+        each_markable (unit_way best laid (frame_at t j) bare) (end - rest) rest _
+        (each_markable (unit_way best laid (frame_at t j) (cond (ltb low middle) voice bare)) (middle - (low + 1)) (low + 1) _
         (way_markable (cond (ltb low middle) voice bare) low some) (λ k h. way_markable (cond (ltb low middle) voice bare) k (omega arith)))
         (λ k h. way_markable bare k (omega arith))
 
@@ -159,13 +145,11 @@ module _ (n : ℕ) (words : List ℕ) (figures : List Float) (score : ℕ → Fl
       -- each unit of the range, with the score that its place in the range says, arrives
       arrives :
           (i : ℕ) → low ≤ i → i < end → (voice : Float) → voice ≡ score_at t i j →
-          Arrives q s cells j i (unit_way best words figures (get_or words j 0) voice i)
+          Arrives q s cells j i (unit_way best laid (frame_at t j) voice i)
       arrives i h k voice scored =
           let sooner = earlier i k in
           let in_range_law = ranged i h k in
-          let fits = ordered.fits i j within in_range_law in
-          let here = frame_is j within in
-          let there = frame_is i (omega arith) in
+          let fits = inputs.ordered.fits i j within in_range_law in
           let ok : q.unit_ok i j ≡ true =
           of.origins.ranged i j sooner within ∙ rw (le-leb (low_at t j) i (omega arith), lt-ltb i (end_at t j) (omega arith)) in
           record {
@@ -173,17 +157,15 @@ module _ (n : ℕ) (words : List ℕ) (figures : List Float) (score : ℕ → Fl
             there = row_held best back row reach i (omega arith) (omega arith);
             ok = ok;
             is = ap (λ (x : Float). Unit (add binary64 (get_or best i nan) x) i)
-                (rw (scored, ← here, ← there, ← duration_at_law figures (frame_at t j - frame_at t i - shortest_unit) (omega arith))
-                (sym (of.value i j sooner within (subst T (sym ok) tt))));
+                (rw scored (sym (of.value i j sooner within (subst T (sym ok) tt))));
           }
 
       pub arrivals_kept :
-          low < end → arrivals q s cells j ≡ held (marked_by (units_kept best words figures (score j) costs j low end))
+          low < end → arrivals q s cells j ≡ held (marked_by (units_kept best laid (t.score j) inputs.costs j low end))
       unfolding units_kept
       arrivals_kept some =
           let inside = middle_inside in
-          let is = end_is in
-          let far : end_at t j ≤ j = ordered.earlier j within in
+          let far : end_at t j ≤ j = inputs.ordered.earlier j within in
           let to_rest : low + 1 + (middle - (low + 1)) ≡ rest = omega arith in
           let to_end : rest + (end - rest) ≡ end = omega arith in
           let to_last : end + (j - end) ≡ j = omega arith in
@@ -191,34 +173,33 @@ module _ (n : ℕ) (words : List ℕ) (figures : List Float) (score : ℕ → Fl
           ∙ ap (brought q s cells j) (sym to_last)
           ∙ brought_past q s cells j end (j - end) (λ i h k. past_idle before of best back row reach j within i (omega arith) (omega arith))
           ∙ ap (brought q s cells j) (sym to_end)
-          ∙ brought_each q s cells j (unit_way best words figures (get_or words j 0) costs.«unvoiced») (end - rest) rest _
+          ∙ brought_each q s cells j (unit_way best laid (frame_at t j) inputs.costs.«unvoiced») (end - rest) rest _
           (ap (brought q s cells j) (sym to_rest)
-          ∙ brought_each q s cells j (unit_way best words figures (get_or words j 0) voiced) (middle - (low + 1)) (low + 1) _ first_one
+          ∙ brought_each q s cells j (unit_way best laid (frame_at t j) voiced) (middle - (low + 1)) (low + 1) _ first_one
           (λ k h l. arrives k (omega arith) (omega arith) voiced (anchored k (omega arith) (omega arith))))
-          (λ k h l. arrives k (omega arith) (omega arith) costs.«unvoiced» (bare k (omega arith)))
+          (λ k h l. arrives k (omega arith) (omega arith) inputs.costs.«unvoiced» (bare k (omega arith)))
         where
           voiced : Float
-          voiced = cond (ltb low middle) (score j) costs.«unvoiced»
+          voiced = cond (ltb low middle) (t.score j) inputs.costs.«unvoiced»
 
           anchored : (i : ℕ) → low < i → i < middle → voiced ≡ score_at t i j
           anchored i h k =
-              let is = middle_is in
-              ap (λ (b : Bool). cond b (score j) costs.«unvoiced»)
+              ap (λ (b : Bool). cond b (t.score j) inputs.costs.«unvoiced»)
               (lt-ltb low middle (omega arith) ∙ sym (lt-ltb i (middle_at t j) (omega arith)))
 
-          bare : (i : ℕ) → middle ≤ i → costs.«unvoiced» ≡ score_at t i j
+          bare : (i : ℕ) → middle ≤ i → inputs.costs.«unvoiced» ≡ score_at t i j
           bare i h =
-              let is = middle_is in ap (λ (b : Bool). cond b (score j) costs.«unvoiced») (sym (le-ltb i (middle_at t j) (omega arith)))
+              ap (λ (b : Bool). cond b (t.score j) inputs.costs.«unvoiced») (sym (le-ltb i (middle_at t j) (omega arith)))
 
           first_one :
               brought q s cells j (low + 1)
-              ≡ held (marked_by (unit_way best words figures (get_or words j 0) (cond (ltb low middle) (score j) costs.«unvoiced») low))
+              ≡ held (marked_by (unit_way best laid (frame_at t j) (cond (ltb low middle) (t.score j) inputs.costs.«unvoiced») low))
           first_one =
               ap (brought q s cells j) (add-one low)
               ∙ brought_first q s cells j low
               (brought_none q s cells j low
               (λ i h. below_idle before of best back row reach j within i (omega (arith, earlier low some)) (omega arith)))
-              (arrives low (omega arith) some _ (ap (λ (m : ℕ). cond (ltb low m) (score j) costs.«unvoiced») (sym middle_is)))
+              (arrives low (omega arith) some _ refl)
 
 -- ---- the cell
 
@@ -232,28 +213,22 @@ next_step q s cells (suc j) h =
     let is : suc j - 1 ≡ j = omega arith in
     rw is
 
-module _ (n : ℕ) (words : List ℕ) (figures : List Float) (score : ℕ → Float) (costs : Costs) (strictness : Strictness)
-    (lent : WholeLists words figures) (few : n ≤ most_boundaries)
-    (ordered : Ordered (row_tables n words figures score costs strictness) n) (j : ℕ) (within : j < n) (best : List Float)
-    (long : n + n ≤ length best)
-    (before since : ℕ) (last : Float) (begun : since ≤ j)
-    (begins : Begins (row_tables n words figures score costs strictness) n before since) where
+module _ (inputs : RowInputs) (j : ℕ) (within : j < inputs.n) (best : List Float) (long : inputs.n + inputs.n ≤ length best)
+    (before since : ℕ) (last : Float) (begun : since ≤ j) (begins : Begins (tables_by inputs) inputs.n before since) where
   abbrev tables : RowTables
-  tables = row_tables n words figures score costs strictness
+  tables = tables_by inputs
 
   -- the way by the gap, as the code reads it
   abbrev gap_way : Way
-  gap_way = Gap (sub binary64 last (get_or figures (gaps_at + j - 1) nan))
+  gap_way = Gap (sub binary64 last (get_or inputs.tables.now.figures.filler.gap (j - 1) nan))
 
   -- the gap carried on from the cell before
   carried :
-      (q : Problem) (s : ℕ) (cells : ℕ → Cell Marked) → GapsOf q tables.tables.gap n → 0 < j → (mark : ℕ) →
+      (q : Problem) (s : ℕ) (cells : ℕ → Cell Marked) → GapsOf q tables.tables.gap inputs.n → 0 < j → (mark : ℕ) →
       next_cells q s cells (j - 1) ≡ held (record { value = last; mark = mark }) →
       carry ((marks q).over_gap (j - 1)) (next_cells q s cells (j - 1)) ≡ held (marked_by gap_way)
   unfolding carry marks
-  carried q s cells gaps h mark e =
-      let place : gaps_at + (j - 1) ≡ gaps_at + j - 1 = omega arith in
-      rw (e, ← gaps (j - 1) (omega arith), table_at_law gaps_at figures (j - 1) nan (omega arith), place)
+  carried q s cells gaps h mark e = rw (e, ← gaps (j - 1) (omega arith))
 
   -- a row's first boundary is reached by a unit, so a boundary that none reaches is a later one
   pub later_than : arrives_from (low_at tables) (end_at tables) before j ≡ false → since < j
@@ -266,7 +241,7 @@ module _ (n : ℕ) (words : List ℕ) (figures : List Float) (score : ℕ → Fl
 
   module _ (low end : ℕ) (lowest : low ≡ max (low_at tables j) before) (to : end ≡ end_at tables j) where
     abbrev unit_ways : Way
-    unit_ways = units_kept best words figures (score j) costs j low end
+    unit_ways = units_kept best inputs.tables.now (tables.score j) inputs.costs j low end
 
     nothing_arrives : end ≤ low → arrives_from (low_at tables) (end_at tables) before j ≡ false
     nothing_arrives h = by_order before (end_at tables j)
@@ -277,7 +252,7 @@ module _ (n : ℕ) (words : List ℕ) (figures : List Float) (score : ℕ → Fl
     alone_later h = later_than (nothing_arrives h)
 
     -- where no unit arrives there is the gap alone
-    pub cell_gap : end ≤ low → CellOf tables best n before since j last gap_way
+    pub cell_gap : end ≤ low → CellOf tables best inputs.n before since j last gap_way
     unfolding keep
     cell_gap h = record {
       markable = omega arith;
@@ -289,18 +264,16 @@ module _ (n : ℕ) (words : List ℕ) (figures : List Float) (score : ℕ → Fl
     }
 
     units_are :
-        low < end → {q : Problem} {s : ℕ} → UnitsOf q s tables n → (back : List ℕ) (cells : ℕ → Cell Marked) → Row best back first n cells →
-        ReachedFrom cells n before → arrivals q s cells j ≡ held (marked_by unit_ways)
+        low < end → {q : Problem} {s : ℕ} → UnitsOf q s tables inputs.n → (back : List ℕ) (cells : ℕ → Cell Marked) → Row best back first inputs.n cells →
+        ReachedFrom cells inputs.n before → arrivals q s cells j ≡ held (marked_by unit_ways)
     units_are some of back cells row reach =
-        arrivals_kept n words figures score costs strictness lent few ordered j within best long low end
-        (omega arith) to before of back row reach lowest some
+        arrivals_kept inputs j within best long low end (omega arith) to before of back row reach lowest some
 
     kept_markable : low < end → Markable unit_ways
-    kept_markable some =
-        units_markable n words figures score costs strictness lent few ordered j within best long low end (omega arith) to some (score j)
+    kept_markable some = units_markable inputs j within best long low end (omega arith) to some (tables.score j)
 
     -- the first boundary of a row has its units alone
-    pub cell_units : low < end → j ≤ since → CellOf tables best n before since j last unit_ways
+    pub cell_units : low < end → j ≤ since → CellOf tables best inputs.n before since j last unit_ways
     cell_units some h = record {
       markable = kept_markable some;
       kept = λ q s gaps of back cells row reach mark filled.
@@ -310,7 +283,7 @@ module _ (n : ℕ) (words : List ℕ) (figures : List Float) (score : ℕ → Fl
     }
 
     -- a later one has them, then the gap
-    pub cell_both : low < end → since < j → CellOf tables best n before since j last (or_later unit_ways gap_way)
+    pub cell_both : low < end → since < j → CellOf tables best inputs.n before since j last (or_later unit_ways gap_way)
     cell_both some after = record {
       markable = or_markable unit_ways gap_way (kept_markable some) (omega arith);
       kept = λ q s gaps of back cells row reach mark filled.

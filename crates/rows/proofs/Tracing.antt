@@ -1,14 +1,12 @@
 -- The way back through the marks, unit by unit. Assumes nothing.
 use mathlib.Core.List.{List, [], ◌∷◌, ◌++◌, map, append_assoc}
-use mathlib.Core.Logic.{◌≢◌}
 use mathlib.Core.Path.{◌≡◌, refl, sym, ap, ap₂, subst, ◌∙◌}
-use Prim.Native.Nat.{ℕ, zero, suc, ◌+◌, ◌-◌, ◌*◌, ◌≤◌, ◌<◌}
-use native.Mathlib.Nat.{mul-le-mul_right}
+use Prim.Native.Nat.{ℕ, zero, suc, ◌+◌, ◌-◌, ◌≤◌, ◌<◌}
 use native.Mathlib.Omega.{arith}
 use lib.ListN.{set, replicate, replicate-append-replicate}
 use Rattle.paths.specs.Inner.Marks.{Traces}
 use Rattle.paths.specs.Path.{Bounds}
-use Rattle.paths.proofs.Marks.{UnitBefore, traces_same, trace_start, trace_gap, trace_unit, trace_marked, trace_count}
+use Rattle.paths.proofs.Marks.{UnitBefore, traces_same, trace_start, trace_gap, trace_unit, trace_count}
 use Rattle.limits.specs.Capacity.{most_units}
 use Rattle.rows.specs.declared.trace.Bounds.{Bounds as HeldBounds}
 use Rattle.rows.specs.Traced.{mark_in, held_bounds, no_bounds, UnitsAre}
@@ -18,18 +16,13 @@ store : {A : Type 0} (s : ℕ) (none x : A) (l : List A) → set (replicate (suc
 store zero none x l = refl
 store {A} (suc s) none x l = ap (λ (t : List A). none ∷ t) (store s none x l)
 
-pub in_rows : (n k s j size : ℕ) → s ≤ k → j < n → suc k * n ≤ size → s * n + j < size
-in_rows n k s j size h l fit =
-    let below : suc s ≤ suc k = omega arith in
-    omega (arith, mul-le-mul_right n below)
-
 pub none-stored : (k : ℕ) → k ≤ most_units → replicate most_units no_bounds ≡ replicate k no_bounds ++ replicate (most_units - k) no_bounds
 none-stored k h =
     let is : most_units ≡ k + (most_units - k) = omega arith in
     ap (λ (n : ℕ). replicate n no_bounds) is ∙ sym (replicate-append-replicate k (most_units - k) no_bounds)
 
 -- The units of the whole trace are those of what is left of it, and then those that are stored.
-pub record Tracing (back : List ℕ) (n k boundary : ℕ) (held : List HeldBounds) (s j mark : ℕ) : Type 0 where
+pub record Tracing (back : List ℕ) (n k boundary : ℕ) (held : List HeldBounds) (s j : ℕ) : Type 0 where
   pub units : List Bounds
   pub whole : Traces (mark_in back n) k boundary units
   pub rest : List Bounds
@@ -39,13 +32,12 @@ pub record Tracing (back : List ℕ) (n k boundary : ℕ) (held : List HeldBound
   pub filled : held ≡ replicate s no_bounds ++ (map held_bounds stored ++ replicate (most_units - k) no_bounds)
   pub row : s ≤ k
   pub place : j < n
-  pub reads : mark ≡ mark_in back n s j
 
-module _ {back : List ℕ} {n k boundary : ℕ} {held : List HeldBounds} {s j mark : ℕ} (was : Tracing back n k boundary held s j mark) where
-  pub gap_back : mark ≡ 2 → (i : ℕ) × (j ≡ suc i) × Traces (mark_in back n) s i was.rest
-  gap_back e = trace_gap was.traced (sym was.reads ∙ e)
+module _ {back : List ℕ} {n k boundary : ℕ} {held : List HeldBounds} {s j : ℕ} (was : Tracing back n k boundary held s j) where
+  pub gap_back : mark_in back n s j ≡ 2 → (i : ℕ) × (j ≡ suc i) × Traces (mark_in back n) s i was.rest
+  gap_back e = trace_gap was.traced e
 
-  pub crossed-back : mark ≡ 2 → Tracing back n k boundary held s (j - 1) (mark_in back n s (j - 1))
+  pub crossed-back : mark_in back n s j ≡ 2 → Tracing back n k boundary held s (j - 1)
   crossed-back e =
       let before = gap_back e in
       let is : before.0 ≡ j - 1 = omega (arith, before.1) in
@@ -59,40 +51,34 @@ module _ {back : List ℕ} {n k boundary : ℕ} {held : List HeldBounds} {s j ma
         filled = was.filled;
         row = was.row;
         place = omega (arith, was.place);
-        reads = refl;
       }
 
-  module _ (started : mark ≢ 1) (gap : mark ≢ 2) where
-    pub unit-mark : 3 ≤ mark
-    unit-mark = omega (arith, trace_marked was.traced, was.reads)
+  module _ {i : ℕ} (e : mark_in back n s j ≡ 3 + i) where
+    pub unit-back : UnitBefore (mark_in back n) s i j was.rest
+    unit-back = trace_unit i was.traced e
 
-    pub unit-back : UnitBefore (mark_in back n) s (mark - 3) j was.rest
-    unit-back = trace_unit (mark - 3) was.traced (sym was.reads ∙ omega (arith, unit-mark))
-
-    pub united-back :
-        Tracing back n k boundary (set held (s - 1) (record { first = mark - 3; last = j })) (s - 1) (mark - 3) (mark_in back n (s - 1) (mark - 3))
+    pub united-back : Tracing back n k boundary (set held (s - 1) (record { first = i; last = j })) (s - 1) i
     united-back = record {
       units = was.units;
       whole = was.whole;
       rest = unit-back.before;
-      stored = record { first = mark - 3; last = j } ∷ was.stored;
-      traced = subst (λ (r : ℕ). Traces (mark_in back n) r (mark - 3) unit-back.before) row_is unit-back.traced;
+      stored = record { first = i; last = j } ∷ was.stored;
+      traced = subst (λ (r : ℕ). Traces (mark_in back n) r i unit-back.before) row_is unit-back.traced;
       split =
           was.split ∙ ap (λ (l : List Bounds). l ++ was.stored) unit-back.all
-          ∙ append_assoc unit-back.before (record { first = mark - 3; last = j } ∷ []) was.stored;
+          ∙ append_assoc unit-back.before (record { first = i; last = j } ∷ []) was.stored;
       filled =
           ap (λ (l : List HeldBounds). set l (s - 1) here) (was.filled ∙ again)
           ∙ store (s - 1) no_bounds here (map held_bounds was.stored ++ replicate (most_units - k) no_bounds);
       row = omega (arith, was.row);
       place = omega (arith, was.place, unit-back.lower);
-      reads = refl;
     }
       where
         row_is : unit-back.row ≡ s - 1
         row_is = omega (arith, unit-back.is_row)
 
         here : HeldBounds
-        here = record { first = mark - 3; last = j }
+        here = record { first = i; last = j }
 
         again :
             replicate s no_bounds ++ (map held_bounds was.stored ++ replicate (most_units - k) no_bounds)
@@ -102,12 +88,12 @@ module _ {back : List ℕ} {n k boundary : ℕ} {held : List HeldBounds} {s j ma
             ap (λ (r : ℕ). replicate r no_bounds ++ (map held_bounds was.stored ++ replicate (most_units - k) no_bounds)) is
 
   -- at the start nothing is left
-  whole-stored : mark ≡ 1 → (s ≡ 0) × (was.units ≡ was.stored)
+  whole-stored : mark_in back n s j ≡ 1 → (s ≡ 0) × (was.units ≡ was.stored)
   whole-stored e =
-      let done = trace_start was.traced (sym was.reads ∙ e) in
+      let done = trace_start was.traced e in
       (done.0, was.split ∙ ap (λ (l : List Bounds). l ++ was.stored) done.1)
 
-  pub units_there : mark ≡ 1 → (units : List Bounds) → Traces (mark_in back n) k boundary units → UnitsAre held units
+  pub units_there : mark_in back n s j ≡ 1 → (units : List Bounds) → Traces (mark_in back n) k boundary units → UnitsAre held units
   units_there e units traces =
       was.filled ∙ ap₂ (λ (z : ℕ) (us : List Bounds). replicate z no_bounds ++ (map held_bounds us ++ replicate (most_units - k) no_bounds))
       (whole-stored e).0 same

@@ -5,5 +5,5 @@ use Rattle.rows.specs.Units.{RowTables, row_tables}
 
 abbrev pub tables_by : RowInputs → RowTables
 tables_by inputs =
-    row_tables inputs.n inputs.tables.words.now inputs.tables.figures.now
-    (score_read inputs.accepted.bytes.now inputs.tables.words.now inputs.column) inputs.costs inputs.strictness
+    row_tables inputs.n inputs.tables.now
+    (score_read inputs.accepted.bytes.now inputs.tables.now.words inputs.column) inputs.costs inputs.strictness

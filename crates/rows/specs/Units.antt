@@ -12,6 +12,7 @@ use Rattle.paths.specs.Inner.Marks.{Marked, marks}
 use Rattle.paths.specs.Inner.Ranges.{in_range, Origins, arrives_from}
 use Rattle.limits.specs.Common.{shortest_unit, longest_unit}
 use Rattle.stages.specs.Tables.{StageTables, ends_in, tables_in}
+use Rattle.stages.specs.declared.stage_tables.StageTables.{StageTables as HeldTables}
 use Rattle.rows.specs.declared.way.Way.{Way}
 use Rattle.rows.specs.Ways.{Markable, marked_by}
 use Rattle.rows.specs.Rows.{Row, Same, GapsOf, first, next}
@@ -23,10 +24,10 @@ pub record RowTables : Type 0 where
   pub costs : Costs
   pub strictness : Strictness
 
--- those over the two lists of a stage with n boundaries
-abbrev pub row_tables : ℕ → List ℕ → List Float → (ℕ → Float) → Costs → Strictness → RowTables
-row_tables n words figures score costs strictness =
-    record { tables = tables_in n words figures; score = score; costs = costs; strictness = strictness }
+-- those of a stage with n boundaries, as the code's struct holds them
+abbrev pub row_tables : ℕ → HeldTables → (ℕ → Float) → Costs → Strictness → RowTables
+row_tables n laid score costs strictness =
+    record { tables = tables_in n laid.words laid.figures; score = score; costs = costs; strictness = strictness }
 
 abbrev pub frame_at : RowTables → ℕ → ℕ
 frame_at t i = get_or t.tables.bounds i 0

@@ -4,6 +4,8 @@ use Rattle.std.specs.Float.Ieee.{lt}
 use Rattle.paths.specs.Inner.Marks.{Marked}
 use Rattle.rows.specs.declared.way.Way.{Way}
 use Rattle.rows.specs.declared.way.Way.TheVariants.{Start, Gap, Unit}
+use Rattle.rows.specs.declared.way.Step.{Step}
+use Rattle.rows.specs.declared.way.Step.TheVariants.{Start as StartStep, Gap as GapStep, Unit as UnitStep}
 
 abbrev pub way_value : Way → Float
 way_value (Start value) = value
@@ -15,6 +17,18 @@ abbrev pub way_mark : Way → ℕ
 way_mark (Start value) = 1
 way_mark (Gap value) = 2
 way_mark (Unit value origin) = 3 + origin
+
+-- what its mark says of a way
+abbrev pub way_step : Way → Step
+way_step (Start value) = StartStep
+way_step (Gap value) = GapStep
+way_step (Unit value origin) = UnitStep origin
+
+-- the mark that says so
+abbrev pub step_mark : Step → ℕ
+step_mark StartStep = 1
+step_mark GapStep = 2
+step_mark (UnitStep origin) = 3 + origin
 
 -- the mark of the way fits a cell
 abbrev pub Markable : Way → Type 0

@@ -10,9 +10,6 @@ pub fn clear(best: &mut [f64], back: &mut [u32], cells: usize)
     ensures best_after { best.new ≡ replicate cells (of_bits binary64 0) ++ drop cells best.old }
     ensures back_after { back.new ≡ replicate cells 0 ++ drop cells back.old }
 {
-    // Two `fill`s become `memset`, with which valgrind counts 0.15 million instructions more in a decode of the maximal record, of 0.94.
-    for at in 0..cells {
-        best[at] = 0.0;
-        back[at] = 0;
-    }
+    best[..cells].fill(0.0);
+    back[..cells].fill(0);
 }

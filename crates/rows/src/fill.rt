@@ -1,7 +1,6 @@
 // A row of the search, boundary by boundary, as the cell rule is written.
 
 ghost use Rattle.std.specs.Prelude.{◌≡◌, ℕ, ◌+◌, ◌≤◌, ◌<◌, length, get_or};
-ghost use Rattle.stages.specs.Lists.{middles_at};
 ghost use Rattle.rows.specs.Rows.{Row, next, unfilled};
 ghost use Rattle.rows.specs.Units.{Begins, CellOf, RowFilled};
 ghost use Rattle.rows.specs.Reads.{UnitRead, score_read, units_kept};
@@ -10,20 +9,20 @@ ghost use Rattle.rows.specs.Inputs.{tables_by};
 use crate::inputs::RowInputs;
 use crate::units::{unit_from, units_from};
 use crate::way::Way;
-use stages::lists::{GAP, LOW, MIDDLE};
+use paths::passes::Strictness;
 
 // "Units from the lowest origin up", of which there is one: what they bring to boundary j. Those from below the middle hold an anchor.
 fn arrived(best: &[f64], inputs: &RowInputs, j: usize, low: usize, end: usize) -> Way
-    requires in_bounds { (j < inputs.now.n) × (low < end) × (get_or inputs.now.tables.words.now (middles_at + j) 0 ≤ end) }
+    requires in_bounds { (j < inputs.now.n) × (low < end) × (get_or inputs.now.tables.now.words.origins.ends.strict j 0 ≤ end) }
     requires by_index { (i : ℕ) → low ≤ i → i < end →
-        UnitRead best.now inputs.now.tables.words.now inputs.now.tables.figures.now (get_or inputs.now.tables.words.now j 0) i }
+        UnitRead best.now inputs.now.tables.now (get_or inputs.now.tables.now.words.bounds j 0) i }
     ensures { result
-        ≡ units_kept best.now inputs.now.tables.words.now inputs.now.tables.figures.now
-        (score_read inputs.now.accepted.bytes.now inputs.now.tables.words.now inputs.now.column j) inputs.now.costs j low end }
+        ≡ units_kept best.now inputs.now.tables.now
+        (score_read inputs.now.accepted.bytes.now inputs.now.tables.now.words inputs.now.column j) inputs.now.costs j low end }
 {
     let tables = inputs.tables;
-    let to = tables.words[j];
-    let middle = tables.words[MIDDLE + j] as usize;
+    let to = tables.words.bounds[j];
+    let middle = tables.words.origins.ends.at(Strictness::Strict, j);
     let bare = inputs.costs.unanchored();
     let voice = if low < middle {
         inputs.score_at(j)
@@ -45,14 +44,15 @@ fn cell(best: &[f64], inputs: &RowInputs, before: usize, since: usize, j: usize,
     ensures { CellOf (tables_by inputs.now) best.now inputs.now.n before since j last result }
 {
     let tables = inputs.tables;
-    let low = (tables.words[LOW + j] as usize).max(before);
-    let end = tables.origins_end(inputs.strictness, j);
+    let origins = &tables.words.origins;
+    let low = (origins.low[j] as usize).max(before);
+    let end = origins.ends.at(inputs.strictness, j);
     if end <= low {
-        return Way::Gap(last - tables.figures[GAP + j - 1]);
+        return Way::Gap(last - tables.figures.filler.gap[j - 1]);
     }
     let kept = arrived(best, inputs, j, low, end);
     if since < j {
-        kept.or(Way::Gap(last - tables.figures[GAP + j - 1]))
+        kept.or(Way::Gap(last - tables.figures.filler.gap[j - 1]))
     } else {
         kept
     }

@@ -1,7 +1,7 @@
-// The ways into a cell, and what the cell rule keeps of them.
+// The ways into a cell, what the cell rule keeps of them, and the marks that they leave.
 
-ghost use Rattle.std.specs.Prelude.{◌≡◌};
-ghost use Rattle.rows.specs.Ways.{way_value, way_mark, Markable, or_later};
+ghost use Rattle.std.specs.Prelude.{◌≡◌, ◌<◌};
+ghost use Rattle.rows.specs.Ways.{way_value, way_mark, Markable, or_later, step_mark};
 
 // "A way into a cell (units so far, boundary) is a start, a gap or a unit, each with its own f64 value" (document 01);
 // a unit comes with the boundary that it starts from.
@@ -24,6 +24,7 @@ impl Way {
     }
 
     // "A later way replaces only when strictly greater."
+    #[tactic(auto, unfolding(crate::specs::Ways::or_later))]
     pub fn or(self, later: Way) -> Way
         ensures { result ≡ or_later self later }
     {
@@ -34,7 +35,7 @@ impl Way {
         }
     }
 
-    // What `back` keeps of a way: 1 a start, 2 a gap, 3 + i a unit from boundary i.
+    // What `back` keeps of a way, a number since the C interface lends its cells: 1 a start, 2 a gap, 3 + i a unit from boundary i.
     pub fn mark(self) -> u32
         requires { Markable self }
         ensures { result ≡ way_mark self }
@@ -43,6 +44,27 @@ impl Way {
             Way::Start(_) => 1,
             Way::Gap(_) => 2,
             Way::Unit(_, origin) => 3 + (origin as u32),
+        }
+    }
+}
+
+// What a mark says of the way that left it: its kind, and the boundary that a unit starts from.
+pub(crate) enum Step {
+    Start,
+    Gap,
+    Unit(u32),
+}
+
+impl Step {
+    // Of a cell that a way reached: none leaves 0.
+    pub(crate) fn of(mark: u32) -> Step
+        requires { 0 < mark }
+        ensures { mark ≡ step_mark result }
+    {
+        match mark {
+            1 => Step::Start,
+            2 => Step::Gap,
+            _ => Step::Unit(mark - 3),
         }
     }
 }

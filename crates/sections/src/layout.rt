@@ -17,6 +17,7 @@ fn placed(end: usize, m: Mark) -> Section
     }
 }
 
+#[tactic(auto, unfolding(record::specs::Layout::layout_from))]
 pub fn laid_out(end: usize, t: Trailer) -> Layout
     requires { Inside end t }
     ensures { result ≡ layout_from end t }

@@ -21,6 +21,7 @@ pub fn other_edition(limits: Limits, t: Trailer) -> bool
     t.edition != limits.edition
 }
 
+#[tactic(auto, unfolding(record::specs::Conditions::oversized))]
 pub fn oversized(limits: Limits, t: Trailer) -> bool
     ensures { result ≡ oversized limits t }
 {
@@ -42,6 +43,7 @@ fn outside(end: usize, long: usize, back: usize) -> bool
     (back < long) | (back > end)
 }
 
+#[tactic(auto, unfolding(record::specs::Conditions::overreaching))]
 pub fn overreaching(limits: Limits, end: usize, t: Trailer) -> bool
     requires moderate { Moderate limits }
     requires sized { Sized limits t }

@@ -1,14 +1,17 @@
 -- Words written two by two from the output's first cell on: what is written, what is left to write, and what is untouched.
 use Prim.Native.Nat.{ℕ, suc, ◌+◌, ◌*◌, ◌≤◌, ◌<◌}
+use mathlib.Core.Bool.{false}
 use mathlib.Core.Path.{◌≡◌, refl, sym, ap, ap₂, ◌∙◌}
-use mathlib.Core.List.{List, [], ◌∷◌, ◌++◌, map, append_assoc, append-nil}
+use mathlib.Core.List.{List, [], ◌∷◌, ◌++◌, map, Memᴰ, append_assoc, append-nil}
 use native.Mathlib.Numerals.{add-one}
 use native.Mathlib.Omega.{arith}
 use lib.ListN.{length, set, take, drop, length-append, length-set, take-append-drop}
 use lib.Seq.{length-take-le, take-suc-set, drop-set-lt, drop-drop}
-use Rattle.std.specs.Prelude.{Some, None}
-use Rattle.frames.specs.Frames.{lowest_from, ascending}
-use Rattle.frames.proofs.Ascending.{count_from, count_le, left, walk_begins, walk_on, walk_end, walk_enough}
+use Rattle.limits.specs.Common.{last_frame}
+use Rattle.frames.specs.Frames.{ascending}
+use Rattle.frames.specs.Outcome.{any_above}
+use Rattle.frames.proofs.Checks.{within}
+use Rattle.frames.proofs.Distinct.{only_members}
 use Rattle.spans.specs.Spans.{span_of, spans_of, words_of, overwritten}
 use Rattle.frames.specs.declared.span.Span.{Span}
 
@@ -81,54 +84,37 @@ words_length g (x ∷ xs) = let rest = words_length g xs in omega arith
 
 -- ---- the walk that writes the spans of the frames of a list
 
--- the words of the spans that are left of a walk that goes on from a frame
-module _ (nuclei bounds : List ℕ) (lo hi : ℕ) where
-  abbrev pub ahead : ℕ → ℕ → List ℕ
-  ahead count from = words_of (map (span_of nuclei bounds lo hi) (left nuclei count from))
-
--- so many cells are written, and the walk goes on from a frame
-pub record Written (nuclei bounds : List ℕ) (lo hi : ℕ) (before out : List ℕ) (at from : ℕ) : Type 0 where
-  pub count : ℕ
-  pub two_each : at ≡ 2 * count
-  pub enough : count + count_from from nuclei ≤ length nuclei
-  pub progress : Progress (words_of (spans_of nuclei bounds lo hi)) before out at (ahead nuclei bounds lo hi count from)
+-- so many spans are written, and those of the frames that are left are still to come
+pub record Written (nuclei bounds : List ℕ) (lo hi : ℕ) (before out : List ℕ) (count : ℕ) (frames : List ℕ) : Type 0 where
+  pub low : {f : ℕ} → Memᴰ f frames → f ≤ last_frame
+  pub progress : Progress (words_of (spans_of nuclei bounds lo hi)) before out (2 * count) (words_of (map (span_of nuclei bounds lo hi) frames))
 
 module _ (nuclei bounds : List ℕ) (lo hi : ℕ) where
-  pub written_none : (out : List ℕ) → Written nuclei bounds lo hi out out 0 0
-  written_none out =
-      record {
-        count = 0;
-        two_each = refl;
-        enough = let enough = count_le 0 nuclei in omega arith;
-        progress = rw (walk_begins nuclei) (none_written (words_of (spans_of nuclei bounds lo hi)) out);
-      }
+  pub written_none : (out : List ℕ) → any_above last_frame nuclei ≡ false → Written nuclei bounds lo hi out out 0 (ascending nuclei)
+  written_none out known =
+      record { low = λ m. within known (only_members nuclei m); progress = none_written (words_of (spans_of nuclei bounds lo hi)) out }
 
-  module _ {before out : List ℕ} {at from : ℕ} (written : Written nuclei bounds lo hi before out at from) where
-    pub written_all : lowest_from from nuclei ≡ None → out ≡ overwritten (words_of (spans_of nuclei bounds lo hi)) before
-    unfolding words_of
-    written_all none =
-        let nothing = ap (λ (l : List ℕ). words_of (map (span_of nuclei bounds lo hi) l)) (walk_end nuclei written.count from none) in
-        all_written (rw nothing at written.progress)
+  pub written_all : {before out : List ℕ} {count : ℕ} → Written nuclei bounds lo hi before out count []
+      → out ≡ overwritten (words_of (spans_of nuclei bounds lo hi)) before
+  unfolding words_of
+  written_all written = all_written written.progress
 
-    module _ {f : ℕ} (there : lowest_from from nuclei ≡ Some f) (span : Span) (is : span ≡ span_of nuclei bounds lo hi f)
-        (fits : 2 * length (ascending nuclei) ≤ length before) where
-      next_span : ahead nuclei bounds lo hi written.count from ≡ span.start ∷ span.end ∷ ahead nuclei bounds lo hi (written.count + 1) (f + 1)
+  module _ {before out : List ℕ} {count f : ℕ} {frames : List ℕ} (written : Written nuclei bounds lo hi before out count (f ∷ frames)) where
+    pub written_low : f ≤ last_frame
+    written_low = written.low (Memᴰ.head refl)
+
+    module _ (span : Span) (is : span ≡ span_of nuclei bounds lo hi f) (fits : 2 * length (ascending nuclei) ≤ length before) where
+      next_span : words_of (map (span_of nuclei bounds lo hi) (f ∷ frames)) ≡ span.start ∷ span.end ∷ words_of (map (span_of nuclei bounds lo hi) frames)
       unfolding words_of
-      next_span =
-          ap (λ (l : List ℕ). words_of (map (span_of nuclei bounds lo hi) l)) (walk_on nuclei written.count from written.enough there)
-          ∙ ap (λ (s : Span). s.start ∷ s.end ∷ ahead nuclei bounds lo hi (written.count + 1) (f + 1)) (sym is)
+      next_span = ap (λ (s : Span). s.start ∷ s.end ∷ words_of (map (span_of nuclei bounds lo hi) frames)) (sym is)
 
       words_fit : length (words_of (spans_of nuclei bounds lo hi)) ≤ length before
       words_fit = rw (words_length (span_of nuclei bounds lo hi)) fits
 
-      pub written_room : at + 2 ≤ length out
+      pub written_room : 2 * count + 2 ≤ length out
       written_room = room written.progress next_span words_fit
 
-      pub written_more : Written nuclei bounds lo hi before (set (set out at span.start) (at + 1) span.end) (at + 2) (f + 1)
+      pub written_more : Written nuclei bounds lo hi before (set (set out (2 * count) span.start) (2 * count + 1) span.end) (count + 1) frames
       written_more =
-          record {
-            count = written.count + 1;
-            two_each = let two = written.two_each in omega arith;
-            enough = walk_enough nuclei written.count from written.enough there;
-            progress = two_more written.progress next_span words_fit;
-          }
+          let next : 2 * (count + 1) ≡ 2 * count + 2 = omega arith in
+          record { low = λ m. written.low (Memᴰ.tail m); progress = rw next (two_more written.progress next_span words_fit) }

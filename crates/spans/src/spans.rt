@@ -7,6 +7,7 @@ ghost use Rattle.spans.specs.Inner.Room.{Writable};
 use crate::bounds::Bounds;
 use crate::edges::span_of;
 use frames::list;
+use frames::ordered::Ascending;
 use frames::sizes::MOST_FRAMES;
 use limits::common::LAST_FRAME;
 use limits::refusal::Refusal;
@@ -16,14 +17,10 @@ fn write_spans(nuclei: &[u32], bounds: &Bounds, out: &mut [u32])
     requires { Writable nuclei.now out.old }
     ensures { out.new ≡ overwritten (words_of (spans_of nuclei.now bounds.now.boundaries.now bounds.now.lo_edge bounds.now.hi_edge)) out.old }
 {
-    let mut at = 0;
-    let mut from = 0;
-    while let Some(f) = list::lowest_from(nuclei, from) {
+    for (i, f) in Ascending::new(nuclei).enumerate() {
         let span = span_of(nuclei, bounds, f);
-        out[at] = span.start;
-        out[at + 1] = span.end;
-        at += 2;
-        from = f + 1;
+        out[2 * i] = span.start;
+        out[2 * i + 1] = span.end;
     }
 }
 

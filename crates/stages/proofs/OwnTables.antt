@@ -1,4 +1,4 @@
--- The tables made of a phrase's parts are those of its stage, and stand in two lists.
+-- The tables made of a phrase's parts are those of its stage, and stand in the code's structs.
 use Prim.Native.Nat.{ℕ, suc, ◌+◌, ◌-◌, ◌≤◌, ◌<◌}
 use mathlib.Core.Path.{◌≡◌, refl, sym, ap, ap₂, ◌∙◌}
 use mathlib.Core.List.{List}
@@ -18,7 +18,8 @@ use Rattle.paths.specs.declared.passes.Strictness.TheVariants.{Strict, Relaxed}
 use Rattle.paths.specs.Inner.Ranges.{low_origin, origins_end, row_before}
 use Rattle.paths.specs.StageProblem.{cost, boundary}
 use Rattle.limits.specs.Capacity.{most_boundaries, unit_counts}
-use Rattle.stages.specs.Lists.{starts_at, gaps_at, stops_at, table_at, durations_in}
+use Rattle.stages.specs.declared.stage_tables.StageFigures.{StageFigures}
+use Rattle.stages.specs.declared.stage_tables.StageWords.{StageWords}
 use Rattle.stages.specs.Tables.{StageTables, Tabled, tables_in, ends_in, since_in, reached_in}
 use Rattle.stages.specs.Edges.{edge}
 use Rattle.stages.specs.Filler.{no_cost}
@@ -91,12 +92,11 @@ module _ (phrase : Phrase) (stage : Stage) (duration : List Float) (numbered : p
     durations = timed;
   }
 
--- The tables that stand in two lists.
-pub laid : (mask nuclei anchors : List ℕ) (first_row : ℕ) (bounds : List ℕ) (duration : List Float) (costs : Costs) (words : List ℕ)
-    (figures : List Float)
+-- The tables that stand in the structs.
+pub laid : (mask nuclei anchors : List ℕ) (first_row : ℕ) (bounds : List ℕ) (duration : List Float) (costs : Costs) (words : StageWords)
+    (figures : StageFigures)
     → Searched (kept_in mask first_row anchors) bounds words
-    → Fills costs mask (kept_in mask 0 nuclei) bounds (table_at starts_at figures) (table_at gaps_at figures) (table_at stops_at figures)
-    → durations_in figures ≡ duration
+    → Fills costs mask (kept_in mask 0 nuclei) bounds figures.filler → figures.durations ≡ duration
     → tables_in (length bounds) words figures ≡ tables_of mask nuclei anchors first_row bounds duration costs
 unfolding tables_of
 laid mask nuclei anchors first_row bounds duration costs words figures searched fills timed i = record {

@@ -21,7 +21,8 @@ use Rattle.paths.proofs.Reached.{reached_same}
 use Rattle.paths.proofs.Rising.{Rising}
 use Rattle.limits.specs.Capacity.{most_boundaries, anchor_room, unit_counts}
 use Rattle.limits.specs.Common.{absent}
-use Rattle.stages.specs.Lists.{lows_at, middles_at, highs_at, origins_long, lows_in, middles_in, highs_in, table_at}
+use Rattle.stages.specs.declared.by_strictness.ByStrictness.{ByStrictness}
+use Rattle.stages.specs.declared.stage_tables.StageWords.{StageWords}
 use Rattle.stages.specs.Kept.{rows_of}
 use Rattle.stages.specs.Parts.{Searched}
 use Rattle.stages.specs.Ranges.{entry_of, unit_to, anchored_to, Ranged}
@@ -29,7 +30,6 @@ use Rattle.stages.specs.Search.{Reaches, Within, entry_before, Lays}
 use Rattle.stages.proofs.Held.{ahead_drop, figure_from, tail_drop}
 use Rattle.stages.proofs.Last.{before_take, figure_before_law}
 use Rattle.stages.proofs.Stage.{Placing, array_long, place_at, places_long, place_few}
-use Rattle.stages.proofs.Parts.{part_part}
 use Rattle.stages.proofs.Origins.{lows_same, ends_same, ranged_by}
 
 -- ---- the units there are, by the first two kept anchors ahead
@@ -141,7 +141,7 @@ module _ {mask : List ℕ} {anchors : List Anchor} {frames bounds places : List 
         (place_few p j h)
         ∙ ap (row_or 0) (sym (last_at j h))
 
-    pub searched : {words : List ℕ} → Lays frames rows places bounds words → Searched anchors bounds words
+    pub searched : {words : StageWords} → Lays frames rows places bounds words → Searched anchors bounds words
     unfolding low_origin origins_end
     searched {words} lays = record {
       bounded = lays.bounded;
@@ -151,33 +151,29 @@ module _ {mask : List ℕ} {anchors : List Anchor} {frames bounds places : List 
       ranks = lays.ranks
           ∙ table_same (λ j. entry_before rows (entry_of places j)) (λ j. row_before 0 anchors (get_or bounds j 0))
           (length bounds) most_boundaries 0 row_at;
-      strict = lays.strict ∙ counts_by (low_origin anchors bounds) (origins_end Strict anchors bounds) (length bounds) lows middles;
-      relaxed = lays.relaxed ∙ counts_by (low_origin anchors bounds) (origins_end Relaxed anchors bounds) (length bounds) lows highs;
+      strict = ap (λ (t : ByStrictness unit_counts). t.strict) lays.since ∙ counts_by (low_origin anchors bounds) (origins_end Strict anchors bounds) (length bounds) lows middles;
+      relaxed = ap (λ (t : ByStrictness unit_counts). t.relaxed) lays.since ∙ counts_by (low_origin anchors bounds) (origins_end Relaxed anchors bounds) (length bounds) lows highs;
     }
       where
         ranged : Ranged bounds (λ k. first_ahead absent anchors (get_or bounds k 0)) (λ k. second_ahead absent anchors (get_or bounds k 0))
-            (take origins_long (drop lows_at words))
+            words.origins
         ranged = ranged_by first_at_law second_at lays.ranged
 
-        inner : (at : ℕ) → at + most_boundaries ≤ origins_long
-            → table_at (lows_at + at) words ≡ table_at at (take origins_long (drop lows_at words))
-        inner at h = sym (part_part at most_boundaries lows_at origins_long words h (omega (arith, lays.whole)))
-
-        lows : table_at lows_at words ≡ table_of (low_origin anchors bounds) (length bounds) most_boundaries 0
+        lows : words.origins.low ≡ table_of (low_origin anchors bounds) (length bounds) most_boundaries 0
         lows =
-            inner lows_in (omega arith) ∙ ranged.lows
+            ranged.lows
             ∙ lows_same (unit_to bounds (λ k. second_ahead absent anchors (get_or bounds k 0))) (goes_to Relaxed anchors bounds) (length bounds)
             (λ i j _ h. unit_goes p.orderly.rising bounds i j (p.small j h))
 
-        middles : table_at middles_at words ≡ table_of (origins_end Strict anchors bounds) (length bounds) most_boundaries 0
+        middles : words.origins.ends.strict ≡ table_of (origins_end Strict anchors bounds) (length bounds) most_boundaries 0
         middles =
-            inner middles_in (omega arith) ∙ ranged.middles
+            ranged.middles
             ∙ ends_same
             (anchored_to bounds (λ k. first_ahead absent anchors (get_or bounds k 0)) (λ k. second_ahead absent anchors (get_or bounds k 0)))
             (goes_to Strict anchors bounds) (length bounds) (λ i j _ h. anchored_goes p.orderly.rising bounds i j (p.small j h))
 
-        highs : table_at highs_at words ≡ table_of (origins_end Relaxed anchors bounds) (length bounds) most_boundaries 0
+        highs : words.origins.ends.relaxed ≡ table_of (origins_end Relaxed anchors bounds) (length bounds) most_boundaries 0
         highs =
-            inner highs_in (omega arith) ∙ ranged.highs
+            ranged.highs
             ∙ ends_same (unit_to bounds (λ k. second_ahead absent anchors (get_or bounds k 0))) (goes_to Relaxed anchors bounds) (length bounds)
             (λ i j _ h. unit_goes p.orderly.rising bounds i j (p.small j h))

@@ -4,7 +4,7 @@ use mathlib.Core.Path.{◌≡◌, sym, ap, ap₂, ◌∙◌}
 use mathlib.Core.List.{List}
 use native.Mathlib.Omega.{arith}
 use lib.ListN.{length, get_or, length-map}
-use lib.Ieee.{Float, neg}
+use lib.Ieee.{neg}
 use Rattle.laws.proofs.Numbers.{by_order}
 use Rattle.laws.proofs.Listed.{table_at_law, table_same, length_table, length_padded}
 use Rattle.laws.specs.Inner.Tables.{padded, table_of}
@@ -19,6 +19,7 @@ use Rattle.limits.specs.Common.{absent}
 use Rattle.stages.specs.Edges.{edge, speech_before}
 use Rattle.stages.specs.Kept.{frames_of}
 use Rattle.stages.specs.declared.anchors.PlacedAnchors.{PlacedAnchors}
+use Rattle.stages.specs.declared.stage_tables.FillerCosts.{FillerCosts}
 use Rattle.stages.specs.Places.{Climbs, count_below, place_before, AnchorsPlaced}
 use Rattle.stages.specs.Filler.{Ascends, stretch, start_at, no_cost, Priced}
 use Rattle.stages.specs.Parts.{Fit, FitList, cost_of, Fills}
@@ -167,8 +168,8 @@ module _ {mask : List ℕ} {anchors : List Anchor} {frames bounds places : List 
     unfolding cost_of
     stretch_is costs i j h k = ap₂ (filler_cost costs) (omega (arith, speech_between i j h k)) (omega (arith, held_between i j h k))
 
-    pub fills : {costs : Costs} {start gap stop : List Float} → Priced costs speech places (length bounds) (length bounds) start gap stop
-        → Fills costs mask anchors bounds start gap stop
+    pub fills : {costs : Costs} {filler : FillerCosts} → Priced costs speech places (length bounds) (length bounds) filler
+        → Fills costs mask anchors bounds filler
     unfolding cost_of
     fills {costs} priced = record {
       started =

@@ -6,6 +6,7 @@ use Rattle.laws.specs.Inner.Tables.{table_of}
 use Rattle.phrase.specs.declared.costs.Costs.{Costs}
 use Rattle.phrase.specs.Filler.{filler_cost}
 use Rattle.limits.specs.Capacity.{most_boundaries}
+use Rattle.stages.specs.declared.stage_tables.FillerCosts.{FillerCosts}
 
 -- The count before edge j is not below that before edge i.
 pub record Rises (counts : List ℕ) (i j : ℕ) : Type 0 where
@@ -34,7 +35,7 @@ abbrev pub no_cost : Float
 no_cost = of_bits binary64 0
 
 -- the costs at the first `done` boundaries, where the edge `last` is the mask's end
-pub record Priced (costs : Costs) (speech nuclei : List ℕ) (last done : ℕ) (start gap stop : List Float) : Type 0 where
-  pub started : start ≡ table_of (start_at costs speech nuclei) done most_boundaries no_cost
-  pub gapped : gap ≡ table_of (λ j. stretch costs speech nuclei j (j + 1)) done most_boundaries no_cost
-  pub stopped : stop ≡ table_of (λ j. stretch costs speech nuclei j last) done most_boundaries no_cost
+pub record Priced (costs : Costs) (speech nuclei : List ℕ) (last done : ℕ) (filler : FillerCosts) : Type 0 where
+  pub started : filler.start ≡ table_of (start_at costs speech nuclei) done most_boundaries no_cost
+  pub gapped : filler.gap ≡ table_of (λ j. stretch costs speech nuclei j (j + 1)) done most_boundaries no_cost
+  pub stopped : filler.stop ≡ table_of (λ j. stretch costs speech nuclei j last) done most_boundaries no_cost

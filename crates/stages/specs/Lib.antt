@@ -1,6 +1,5 @@
--- The definitions of this layer. Lists says where the tables of a stage stand, Tables what they hold, and Made what each entry is made
+-- The definitions of this layer. Tables says what the tables of a stage hold, and Made what each entry is made
 -- of; the others say what the parts hold that they are made of.
-pub mod Lists
 pub mod Edges
 pub mod Tables
 pub mod Kept

@@ -11,7 +11,8 @@ use Rattle.paths.specs.Anchors.{Anchor, held_in}
 use Rattle.paths.specs.declared.passes.Strictness.TheVariants.{Strict, Relaxed}
 use Rattle.paths.specs.Inner.Ranges.{low_origin, origins_end, first_reached, row_before}
 use Rattle.limits.specs.Capacity.{most_boundaries, unit_counts}
-use Rattle.stages.specs.Lists.{bounds_at, lows_at, middles_at, highs_at, rows_at, since_strict_at, since_relaxed_at, table_at, counts_at}
+use Rattle.stages.specs.declared.stage_tables.FillerCosts.{FillerCosts}
+use Rattle.stages.specs.declared.stage_tables.StageWords.{StageWords}
 use Rattle.stages.specs.Edges.{edge}
 use Rattle.stages.specs.Filler.{no_cost}
 
@@ -29,22 +30,22 @@ unfoldable pub cost_of : Costs → List ℕ → List Anchor → ℕ → ℕ → 
 cost_of costs mask nuclei from to = filler_cost costs (speech_in mask from to) (length (held_in nuclei from to))
 
 -- The filler costs: of the start (negated), of the gap to the next edge, of the end.
-pub record Fills (costs : Costs) (mask : List ℕ) (nuclei : List Anchor) (bounds : List ℕ) (start gap stop : List Float) : Type 0 where
-  pub started : start ≡ table_of (λ j. neg (cost_of costs mask nuclei 0 (edge bounds (length mask) j))) (length bounds) most_boundaries no_cost
-  pub gapped : gap
+pub record Fills (costs : Costs) (mask : List ℕ) (nuclei : List Anchor) (bounds : List ℕ) (filler : FillerCosts) : Type 0 where
+  pub started : filler.start ≡ table_of (λ j. neg (cost_of costs mask nuclei 0 (edge bounds (length mask) j))) (length bounds) most_boundaries no_cost
+  pub gapped : filler.gap
       ≡ table_of (λ j. cost_of costs mask nuclei (edge bounds (length mask) j) (edge bounds (length mask) (j + 1)))
       (length bounds) most_boundaries no_cost
-  pub stopped : stop
+  pub stopped : filler.stop
       ≡ table_of (λ j. cost_of costs mask nuclei (edge bounds (length mask) j) (length mask)) (length bounds) most_boundaries no_cost
 
 -- The words that the search reads, by the kept anchors of the stage.
-pub record Searched (anchors : List Anchor) (bounds words : List ℕ) : Type 0 where
-  pub bounded : table_at bounds_at words ≡ table_of (λ j. get_or bounds j 0) (length bounds) most_boundaries 0
-  pub lows : table_at lows_at words ≡ table_of (low_origin anchors bounds) (length bounds) most_boundaries 0
-  pub middles : table_at middles_at words ≡ table_of (origins_end Strict anchors bounds) (length bounds) most_boundaries 0
-  pub highs : table_at highs_at words ≡ table_of (origins_end Relaxed anchors bounds) (length bounds) most_boundaries 0
-  pub ranks : table_at rows_at words ≡ table_of (λ j. row_before 0 anchors (get_or bounds j 0)) (length bounds) most_boundaries 0
-  pub strict : counts_at since_strict_at words
+pub record Searched (anchors : List Anchor) (bounds : List ℕ) (words : StageWords) : Type 0 where
+  pub bounded : words.bounds ≡ table_of (λ j. get_or bounds j 0) (length bounds) most_boundaries 0
+  pub lows : words.origins.low ≡ table_of (low_origin anchors bounds) (length bounds) most_boundaries 0
+  pub middles : words.origins.ends.strict ≡ table_of (origins_end Strict anchors bounds) (length bounds) most_boundaries 0
+  pub highs : words.origins.ends.relaxed ≡ table_of (origins_end Relaxed anchors bounds) (length bounds) most_boundaries 0
+  pub ranks : words.rows ≡ table_of (λ j. row_before 0 anchors (get_or bounds j 0)) (length bounds) most_boundaries 0
+  pub strict : words.since.strict
       ≡ listed (first_reached (low_origin anchors bounds) (origins_end Strict anchors bounds) (length bounds)) unit_counts
-  pub relaxed : counts_at since_relaxed_at words
+  pub relaxed : words.since.relaxed
       ≡ listed (first_reached (low_origin anchors bounds) (origins_end Relaxed anchors bounds) (length bounds)) unit_counts

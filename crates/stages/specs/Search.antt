@@ -1,10 +1,13 @@
 -- The words of a stage that the search reads, by the place of each boundary among the kept anchors.
-use Rattle.std.specs.Prelude.{ℕ, zero, suc, ◌+◌, ◌≤◌, ◌<◌, ◌≡◌, List, length, take, drop, replicate}
+use Rattle.std.specs.Prelude.{ℕ, zero, suc, ◌+◌, ◌≤◌, ◌<◌, ◌≡◌, List, length, replicate}
 use Rattle.laws.specs.Listed.{listed}
 use Rattle.laws.specs.Inner.Tables.{table_of}
 use Rattle.paths.specs.Inner.Ranges.{first_reached}
 use Rattle.limits.specs.Capacity.{most_boundaries, unit_counts}
-use Rattle.stages.specs.Lists.{bounds_at, lows_at, middles_at, highs_at, rows_at, span_starts_at, since_strict_at, since_relaxed_at, words_long, origins_long, spans_long, table_at, counts_at}
+use Rattle.stages.specs.declared.by_strictness.ByStrictness.{ByStrictness}
+use Rattle.frames.specs.declared.span.Span.{Span}
+use Rattle.stages.specs.declared.stage_tables.Origins.{Origins}
+use Rattle.stages.specs.declared.stage_tables.StageWords.{StageWords}
 use Rattle.stages.specs.Ranges.{entry_of, Ranged}
 
 -- the first n places are places of a list of this length
@@ -23,17 +26,26 @@ abbrev pub entry_before : List ℕ → ℕ → ℕ
 entry_before list zero = 0
 entry_before list (suc place) = entry_of list place
 
--- what each count of units reaches, where the table at a place of the words says where the origins end
-abbrev pub reached_by : List ℕ → ℕ → ℕ → List ℕ
-reached_by words ends n = listed (first_reached (entry_of (table_at lows_at words)) (entry_of (table_at ends words)) n) unit_counts
+-- what each count of units reaches, where the origins of a boundary are from the lowest up to an end
+abbrev pub reached_by : List ℕ → List ℕ → ℕ → List ℕ
+reached_by low ends n = listed (first_reached (entry_of low) (entry_of ends) n) unit_counts
 
--- every word, where those of the spans are still 0
-pub record Lays (frames rows places bounds words : List ℕ) : Type 0 where
-  pub bounded : table_at bounds_at words ≡ table_of (entry_of bounds) (length bounds) most_boundaries 0
-  pub ranged : Ranged bounds (λ j. entry_of frames (entry_of places j)) (λ j. entry_of frames (entry_of places j + 1))
-      (take origins_long (drop lows_at words))
-  pub ranks : table_at rows_at words ≡ table_of (λ j. entry_before rows (entry_of places j)) (length bounds) most_boundaries 0
-  pub spare : take spans_long (drop span_starts_at words) ≡ replicate spans_long 0
-  pub strict : counts_at since_strict_at words ≡ reached_by words middles_at (length bounds)
-  pub relaxed : counts_at since_relaxed_at words ≡ reached_by words highs_at (length bounds)
-  pub whole : length words ≡ words_long
+-- by each strictness
+abbrev pub reached_from : Origins → ℕ → ByStrictness unit_counts
+reached_from origins n =
+    record { strict = reached_by origins.low origins.ends.strict n; relaxed = reached_by origins.low origins.ends.relaxed n }
+
+-- what stands for the span of an anchor where there is none, and spans before they are laid
+abbrev pub no_span : Span
+no_span = record { start = 0; end = 0 }
+
+abbrev pub no_spans : List Span
+no_spans = replicate most_boundaries no_span
+
+-- every word, where the spans are not laid yet
+pub record Lays (frames rows places bounds : List ℕ) (words : StageWords) : Type 0 where
+  pub bounded : words.bounds ≡ table_of (entry_of bounds) (length bounds) most_boundaries 0
+  pub ranged : Ranged bounds (λ j. entry_of frames (entry_of places j)) (λ j. entry_of frames (entry_of places j + 1)) words.origins
+  pub ranks : words.rows ≡ table_of (λ j. entry_before rows (entry_of places j)) (length bounds) most_boundaries 0
+  pub spare : words.spans ≡ no_spans
+  pub since : words.since ≡ reached_from words.origins (length bounds)

@@ -11,7 +11,9 @@ use Rattle.paths.specs.declared.passes.Strictness.TheVariants.{Strict, Relaxed}
 use Rattle.paths.specs.Inner.Ranges.{low_origin, origins_end, first_reached, row_before}
 use Rattle.paths.specs.StageProblem.{cost, boundary}
 use Rattle.limits.specs.Capacity.{unit_counts}
-use Rattle.stages.specs.Lists.{bounds_at, lows_at, middles_at, highs_at, rows_at, since_strict_at, since_relaxed_at, starts_at, gaps_at, stops_at, table_at, counts_at, durations_in}
+use Rattle.stages.specs.declared.by_strictness.ByStrictness.{ByStrictness}
+use Rattle.stages.specs.declared.stage_tables.StageWords.{StageWords}
+use Rattle.stages.specs.declared.stage_tables.StageFigures.{StageFigures}
 
 -- For each boundary its frame; the filler costs of the start (negated), of the gap to the next boundary and of the end; of the units that
 -- end there the lowest origin, and one past the highest of those that hold an anchor and of all; and the score row of the last kept anchor
@@ -61,19 +63,24 @@ pub record Tabled (phrase : Phrase) (stage : Stage) (t : StageTables) : Type 0 w
   pub sinces : (strictness : Strictness) (s : ℕ) → s < unit_counts → get_or (since_in t strictness) s 0 ≡ reached_in phrase stage strictness s
   pub durations : (d : ℕ) → shortest_unit ≤ d → d ≤ longest_unit → get_or t.duration (d - shortest_unit) nan ≡ stage.duration d
 
--- the tables that stand one after the other in two lists, of words and of figures
-abbrev pub tables_in : ℕ → List ℕ → List Float → StageTables
+-- an entry of a table that goes by strictness
+abbrev pub entry_by : {N : ℕ} → ByStrictness N → Strictness → ℕ → ℕ
+entry_by t Strict i = get_or t.strict i 0
+entry_by t Relaxed i = get_or t.relaxed i 0
+
+-- the tables as the code's structs hold them
+abbrev pub tables_in : ℕ → StageWords → StageFigures → StageTables
 tables_in size words figures = record {
   size = size;
-  bounds = table_at bounds_at words;
-  start = table_at starts_at figures;
-  gap = table_at gaps_at figures;
-  stop = table_at stops_at figures;
-  low = table_at lows_at words;
-  middle = table_at middles_at words;
-  high = table_at highs_at words;
-  row = table_at rows_at words;
-  since_strict = counts_at since_strict_at words;
-  since_relaxed = counts_at since_relaxed_at words;
-  duration = durations_in figures;
+  bounds = words.bounds;
+  start = figures.filler.start;
+  gap = figures.filler.gap;
+  stop = figures.filler.stop;
+  low = words.origins.low;
+  middle = words.origins.ends.strict;
+  high = words.origins.ends.relaxed;
+  row = words.rows;
+  since_strict = words.since.strict;
+  since_relaxed = words.since.relaxed;
+  duration = figures.durations;
 }

@@ -3,11 +3,12 @@
 #![tactic(auto)]
 
 pub mod anchors;
+pub mod by_strictness;
 mod counts;
 pub mod filler;
-pub mod lists;
 pub mod ranges;
 pub mod search;
 pub mod since;
 pub mod stage_parts;
+pub mod stage_tables;
 pub mod tables;

@@ -28,6 +28,8 @@ impl<'a> Page<'a> {
         self.len = end;
     }
 
+    // This and `put_hexadecimal` share `put`. One function over both would take `decimal` or `hex` as a closure over a buffer of N bytes,
+    // and its clauses, on what the closure leaves behind a reference, would be longer than both bodies.
     pub fn put_decimal(&mut self, n: u32)
         requires { self.old.len + 10 ≤ length self.old.bytes.now }
         ensures { Prints 10 self.old (Ascii·decimal n) self.new }

@@ -13,7 +13,8 @@ pub fn frame_of(word: u32) -> Option<u32>
     if word == ABSENT { None } else { Some(word) }
 }
 
-// No `From<u32>` of the two types: which word stands for which is C's matter, and their own crates know of no words.
+// This, the next and `stage_boundaries` of frames tell word 0 from the others. One generic `named(word, zero, other)` for the three would
+// be no shorter than the `if`.
 pub fn stage_named(word: u32) -> Which
     ensures { result ≡ stage_named word }
 {

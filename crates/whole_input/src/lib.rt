@@ -1,6 +1,8 @@
-// Input, read into a buffer.
+// Input, read into a buffer, and the words that stand there.
 
 #![tactic(auto)]
+
+pub mod words;
 
 ghost use Rattle.std.specs.Prelude.{◌<◌, length, take, IfOk};
 ghost use Rattle.std.specs.Io.{ReadsAtMost};

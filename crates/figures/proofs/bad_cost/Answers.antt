@@ -4,6 +4,7 @@ use borrow.Author.Tests.{lt-ltb}
 use Rattle.laws.proofs.Choices.{or_found, or_rest}
 use Rattle.record.specs.Conditions.{bad_scores, bad_figures, bad_table, bad_cost, first_table, second_table}
 use Rattle.record.specs.declared.layout.Layout.{Layout}
+use Rattle.figures.proofs.Tables.{scores_walked, table_walked}
 use Rattle.figures.proofs.bad_cost.Goals as goal
 
 module _ (bytes : List ℕ) (at : Layout) {s f t : Bool}
@@ -33,12 +34,27 @@ module _ (bytes : List ℕ) (at : Layout) {s f t : Bool}
   second e some =
       ap (λ (b : Bool). b && bad_table bytes (second_table at.costs)) (sym (lt-ltb 0 at.added_anchors.count some)) ∙ or_rest First _ (tested ∙ e)
 
-pub returns-then-bad_scores-bad_figures : goal.returns-then-bad_scores-bad_figures
-returns-then-bad_scores-bad_figures c = bad_first _ _ c.bad_scores.ensures c.bad_figures.ensures c.bad_table.ensures c.if-bad_scores-bad_figures.true
+pub returns-then-any_bad-bad_figures : goal.returns-then-any_bad-bad_figures
+returns-then-any_bad-bad_figures c =
+    bad_first _ _
+    (scores_walked _ _ _ c.any_bad.ensures c.numbers_at-scores.ensures.len c.numbers_at-scores.ensures.number)
+    c.bad_figures.ensures
+    (table_walked _ _ _ c.any_bad-2.ensures c.numbers_at-first.ensures.len c.numbers_at-first.ensures.number)
+    c.if-any_bad-bad_figures.true
 
 pub returns-then-at-eq0 : goal.returns-then-at-eq0
-returns-then-at-eq0 c = no_second _ _ c.bad_scores.ensures c.bad_figures.ensures c.bad_table.ensures c.if-bad_scores-bad_figures.false c.if-at-eq0.true
+returns-then-at-eq0 c =
+    no_second _ _
+    (scores_walked _ _ _ c.any_bad.ensures c.numbers_at-scores.ensures.len c.numbers_at-scores.ensures.number)
+    c.bad_figures.ensures
+    (table_walked _ _ _ c.any_bad-2.ensures c.numbers_at-first.ensures.len c.numbers_at-first.ensures.number)
+    c.if-any_bad-bad_figures.false c.if-at-eq0.true
 
 pub returns : goal.returns
 returns c =
-    c.bad_table-2.ensures ∙ second _ _ c.bad_scores.ensures c.bad_figures.ensures c.bad_table.ensures c.if-bad_scores-bad_figures.false (omega arith)
+    table_walked _ _ _ c.any_bad-3.ensures c.numbers_at-second.ensures.len c.numbers_at-second.ensures.number
+    ∙ second _ _
+    (scores_walked _ _ _ c.any_bad.ensures c.numbers_at-scores.ensures.len c.numbers_at-scores.ensures.number)
+    c.bad_figures.ensures
+    (table_walked _ _ _ c.any_bad-2.ensures c.numbers_at-first.ensures.len c.numbers_at-first.ensures.number)
+    c.if-any_bad-bad_figures.false (omega arith)

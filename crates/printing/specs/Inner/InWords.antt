@@ -9,6 +9,10 @@ use Rattle.printing.specs.Listing.{head_line, unit_lines}
 unfoldable pub name_text : ℕ → ℕ → List ℕ
 name_text id llr = ascii "candidate " ++ decimal id ++ ascii " " ++ hexadecimal llr
 
+-- the unit of three words
+abbrev pub unit_in : List ℕ → ReportedUnit
+unit_in words = record { start = get_or words 0 0; end = get_or words 1 0; row = get_or words 2 0 }
+
 -- the units whose words stand at the front
 unfoldable pub units_in : ℕ → List ℕ → List ReportedUnit
 units_in zero words = []

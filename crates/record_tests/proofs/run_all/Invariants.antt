@@ -2,5 +2,5 @@
 use Rattle.std.proofs.Common.{length}
 use Rattle.record_tests.proofs.run_all.Given as goal
 
-abbrev pub decreases-loop-cases : goal.decreases-loop-cases
-decreases-loop-cases g l = length l.cases
+abbrev pub decreases-loop-words : goal.decreases-loop-words
+decreases-loop-words g l = length l.words.left.now

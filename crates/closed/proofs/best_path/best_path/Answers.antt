@@ -8,12 +8,11 @@ use Rattle.paths.specs.Problem.{Problem}
 use Rattle.limits.specs.Capacity.{unit_counts}
 use Rattle.stages.specs.Tables.{since_in}
 use Rattle.rows.specs.Reads.{reached_by}
-use Rattle.rows.proofs.Lists.{reached_at}
+use Rattle.rows.proofs.Tables.{reached_at}
 use Rattle.closed.specs.declared.task.StageTask.{StageTask}
 use Rattle.closed.specs.Reported.{AllRows, LastReached, Reports}
 use Rattle.closed.specs.Asked.{Agrees, cells_for}
 use Rattle.closed.specs.Tasks.{asked_by, Searchable}
-use Rattle.closed.proofs.Lists.{whole}
 use Rattle.closed.proofs.Chosen.{reports_none}
 use Rattle.closed.proofs.Reaching.{reaches, none_there}
 use Rattle.closed.proofs.Restored.{restored, zero_value, zero_mark}
@@ -28,9 +27,9 @@ module _ (stage : StageTask) {best : List Float} {back : List ℕ} (called : Sea
   used : suc k * stage.n ≡ cells_for (asked_by stage)
   used = ap (λ (m : ℕ). suc m * stage.n) counted
 
-  module _ (since : ℕ) (first : since ≡ reached_by stage.tables.words.now stage.strictness k) where
+  module _ (since : ℕ) (first : since ≡ reached_by stage.tables.now.words stage.strictness k) where
     first-there : since ≡ get_or (since_in (asked_by stage).tables stage.strictness) k 0
-    first-there = first ∙ sym (reached_at stage.n stage.tables.words.now stage.tables.figures.now stage.strictness k few_units_law)
+    first-there = first ∙ sym (reached_at stage.n stage.tables.now.words stage.tables.now.figures stage.strictness k)
 
     last_reached : (q : Problem) → Agrees (asked_by stage) q → LastReached q stage.n k since
     last_reached q agrees = reaches (asked_by stage) called.readable q agrees k few_units_law since first-there
@@ -40,13 +39,12 @@ module _ (stage : StageTask) {best : List Float} {back : List ℕ} (called : Sea
         subst (λ (m : ℕ). Reports q m None) counted
         (reports_none (none_there (asked_by stage) called.readable q agrees k few_units_law (omega (arith, first-there))))
 
-pub first_reached-since-requires : goal.first_reached-since-requires
-first_reached-since-requires c =
-    (c.args.stage.now.tables.whole.worded, few_units_law c.args.stage.now c.requires c.units-k.result c.units-k.ensures)
+pub at-since-requires : goal.at-since-requires
+at-since-requires c = (omega arith, few_units_law c.args.stage.now c.requires c.units-k.result c.units-k.ensures)
 
 pub returns-then-since-stage-clause-reports_for : goal.returns-then-since-stage-clause-reports_for
 returns-then-since-stage-clause-reports_for c =
-    reports_nowhere c.args.stage.now c.requires c.units-k.result c.units-k.ensures c.first_reached-since.result c.first_reached-since.ensures
+    reports_nowhere c.args.stage.now c.requires c.units-k.result c.units-k.ensures c.at-since.result c.at-since.ensures
     c.if-since-stage.true
 
 pub finish-path-requires : goal.finish-path-requires
@@ -63,14 +61,14 @@ finish-path-requires c =
         omega (arith, c.requires.readable.few),
         omega (arith, cells, unused.values, filled.auto.best),
         omega (arith, cells, unused.marks, filled.auto.back),
-        omega (arith, c.requires.readable.few, (whole {n = a.stage.now.n} a.stage.now.tables.whole).stop),
+        omega (arith, c.requires.readable.few),
         c.if-since-stage.false,
       );
       some_rows = (
         some.0,
         some.1.stops,
         subst⁻¹ (AllRows some.0 filled.new.best filled.new.back a.stage.now.n) c.units-k.ensures (filled.ensures.rows some.0 some.1),
-        last_reached c.args.stage.now c.requires c.units-k.result c.units-k.ensures c.first_reached-since.result c.first_reached-since.ensures some.0 some.1,
+        last_reached c.args.stage.now c.requires c.units-k.result c.units-k.ensures c.at-since.result c.at-since.ensures some.0 some.1,
       );
     }
 
@@ -82,7 +80,7 @@ returns-clause-reports_for c =
     λ q agrees. subst (λ (k : ℕ). Reports q k (Some done.result)) c.units-k.ensures
     (done.ensures.reports q agrees.stops
     (subst⁻¹ (AllRows q filled.new.best filled.new.back a.stage.now.n) c.units-k.ensures (filled.ensures.rows q agrees))
-    (last_reached c.args.stage.now c.requires c.units-k.result c.units-k.ensures c.first_reached-since.result c.first_reached-since.ensures q agrees))
+    (last_reached c.args.stage.now c.requires c.units-k.result c.units-k.ensures c.at-since.result c.at-since.ensures q agrees))
 
 pub returns-clause-best_unchanged : goal.returns-clause-best_unchanged
 returns-clause-best_unchanged c =

@@ -1,18 +1,17 @@
 -- proofs/AllRows.antt has the rows.
-use Rattle.std.proofs.Common.{◌≡◌, ℕ, ◌+◌, ◌<◌, List, [], length, get_or, sym, ap, subst, ◌∙◌, arith}
+use Rattle.std.proofs.Common.{◌≡◌, ℕ, ◌+◌, ◌<◌, List, [], length, get_or, sym, ap, subst, arith}
 use mathlib.Core.Path.{subst⁻¹}
 use lib.Ieee.{Float}
 use Rattle.phrase.specs.declared.costs.Costs.{Costs}
 use Rattle.limits.specs.Capacity.{unit_counts}
-use Rattle.stages.specs.Lists.{rows_at}
 use Rattle.stages.specs.Tables.{since_in}
 use Rattle.record.proofs.Accepted.{fit}
 use Rattle.record.proofs.Reading.{few_units_law as candidate-units, within_real}
 use Rattle.record.specs.Meaning.{phrase_of}
-use Rattle.rows.specs.Reads.{reached_by, score_read, score_rows, Scorable}
+use Rattle.rows.specs.Reads.{reached_by, score_read, Scorable}
 use Rattle.rows.specs.Units.{Ordered, row_tables, Begins}
 use Rattle.rows.proofs.Cells.{same_trans}
-use Rattle.rows.proofs.Lists.{table_at_law, reached_at}
+use Rattle.rows.proofs.Tables.{reached_at}
 use Rattle.closed.specs.declared.task.StageTask.{StageTask}
 use Rattle.closed.specs.Filled.{row_at, FilledNext}
 use Rattle.closed.specs.Searched.{row_with, scores_in}
@@ -31,18 +30,17 @@ module _ (stage : StageTask) {best : List Float} {back : List ℕ} (called : Sea
   -- the unit of a turn is one of the candidate's; its column is as read
   module _ (s : ℕ) (more : s < length (asked_by stage).columns) (column : ℕ) (read : column ≡ get_or (asked_by stage).columns s 0) where
     abbrev score : ℕ → Float
-    score = score_read stage.task.accepted.bytes.now stage.tables.words.now column
+    score = score_read stage.task.accepted.bytes.now stage.tables.now.words column
 
-    scorable : Scorable stage.task.accepted.bytes.now stage.task.accepted.at stage.tables.words.now column stage.n
+    scorable : Scorable stage.task.accepted.bytes.now stage.task.accepted.at stage.tables.now.words column stage.n
     scorable = record {
       laid = stage.task.given.laid;
       numbered = subst⁻¹ (λ (x : ℕ). x < stage.task.accepted.at.scores.count) read
           (((fit stage.task.given.laid).candidates stage.task.candidate (record { id = 0; columns = [] }) stage.task.given.listed).below s more);
-      rows = λ j h. subst (λ (x : ℕ). x < score_rows (phrase_of stage.task.accepted.bytes.now))
-          (table_at_law rows_at stage.tables.words.now j 0 (omega (arith, called.readable.few))) (called.readable.rows j h);
+      rows = called.readable.rows;
     }
 
-    ordered : Ordered (row_tables stage.n stage.tables.words.now stage.tables.figures.now score stage.task.costs stage.strictness) stage.n
+    ordered : Ordered (row_tables stage.n stage.tables.now score stage.task.costs stage.strictness) stage.n
     ordered = record {
       earlier = called.readable.earlier;
       fits = called.readable.fits;
@@ -51,11 +49,11 @@ module _ (stage : StageTask) {best : List Float} {back : List ℕ} (called : Sea
     }
 
     reading : (r : ℕ) → r < unit_counts
-        → reached_by stage.tables.words.now stage.strictness r ≡ get_or (since_in (asked_by stage).tables stage.strictness) r 0
-    reading r h = sym (reached_at stage.n stage.tables.words.now stage.tables.figures.now stage.strictness r h)
+        → reached_by stage.tables.now.words stage.strictness r ≡ get_or (since_in (asked_by stage).tables stage.strictness) r 0
+    reading r h = sym (reached_at stage.n stage.tables.now.words stage.tables.now.figures stage.strictness r)
 
-    beginning : Begins (row_tables stage.n stage.tables.words.now stage.tables.figures.now score stage.task.costs stage.strictness) stage.n
-        (reached_by stage.tables.words.now stage.strictness s) (reached_by stage.tables.words.now stage.strictness (s + 1))
+    beginning : Begins (row_tables stage.n stage.tables.now score stage.task.costs stage.strictness) stage.n
+        (reached_by stage.tables.now.words stage.strictness s) (reached_by stage.tables.now.words stage.strictness (s + 1))
     beginning =
         let few = few_units_law in
         begins (asked_by stage) called.readable score stage.task.costs s (omega arith) _ _ (reading s (omega arith)) (reading (s + 1) (omega arith))
@@ -63,11 +61,9 @@ module _ (stage : StageTask) {best : List Float} {back : List ℕ} (called : Sea
     -- the scores are those of the unit's column
     scored : (j : ℕ) → j < stage.n → score j ≡ scores_in (phrase_of stage.task.accepted.bytes.now) (asked_by stage).tables (get_or (asked_by stage).columns s 0) j
     scored j h =
-        ap (λ (row : ℕ). (phrase_of stage.task.accepted.bytes.now).score row column)
-        (sym (table_at_law rows_at stage.tables.words.now j 0 (omega (arith, called.readable.few))))
-        ∙ ap ((phrase_of stage.task.accepted.bytes.now).score (get_or (asked_by stage).tables.row j 0)) read
+        ap ((phrase_of stage.task.accepted.bytes.now).score (get_or (asked_by stage).tables.row j 0)) read
 
-    reaching : (q : Problem) → Agrees (asked_by stage) q → LastReached q stage.n s (reached_by stage.tables.words.now stage.strictness s)
+    reaching : (q : Problem) → Agrees (asked_by stage) q → LastReached q stage.n s (reached_by stage.tables.now.words stage.strictness s)
     reaching q agrees =
         let few = few_units_law in
         reaches (asked_by stage) called.readable q agrees s (omega arith) _ (reading s (omega arith))
@@ -118,12 +114,12 @@ loop-s-preserved c =
     let more : c.loop-s.s < length (asked_by stage).columns = omega (arith, c.loop-s-test.true, c.requires.k_value) in
     let column = c.column-unit in
     rows_more (asked_by stage) was more next.auto.best next.auto.back
-    (score_read stage.task.accepted.bytes.now stage.tables.words.now column.result)
+    (score_read stage.task.accepted.bytes.now stage.tables.now.words column.result)
     (scored stage called c.loop-s.s more column.result column.ensures)
-    (reached_by stage.tables.words.now stage.strictness c.loop-s.s)
-    (subst (λ (x : Costs). FilledNext (row_with (asked_by stage).tables (score_read stage.task.accepted.bytes.now stage.tables.words.now column.result) x
+    (reached_by stage.tables.now.words stage.strictness c.loop-s.s)
+    (subst (λ (x : Costs). FilledNext (row_with (asked_by stage).tables (score_read stage.task.accepted.bytes.now stage.tables.now.words column.result) x
     stage.strictness) c.loop-s.best c.loop-s.back next.new.best next.new.back stage.n c.loop-s.s
-    (reached_by stage.tables.words.now stage.strictness c.loop-s.s)) stage.task.given.figures next.ensures)
+    (reached_by stage.tables.now.words stage.strictness c.loop-s.s)) stage.task.given.figures next.ensures)
     (reaching stage called c.loop-s.s more column.result column.ensures)
     some.0 some.1
 

@@ -19,6 +19,6 @@ pub returns : goal.returns
 returns c =
     let a = c.args in
     let p = c.requires.n_in_bounds in
-    rw (← c.first_reached-before.ensures)
-    (next_row a.best.now a.back.now a.inputs.now.n a.s p.0 p.1 (tables_by a.inputs.now) c.first_reached-before.result
+    rw (← c.at-before.ensures)
+    (next_row a.best.now a.back.now a.inputs.now.n a.s p.0 p.1 (tables_by a.inputs.now) c.at-before.result
     c.fill_row.new.best c.fill_row.new.back c.fill_row.ensures)

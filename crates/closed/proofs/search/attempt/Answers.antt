@@ -13,7 +13,7 @@ use Rattle.closed.proofs.search.attempt.Goals as goal
 
 pub best_path-requires : goal.best_path-requires
 best_path-requires c =
-    pass_inputs c.args.task.now.given c.args.pass c.requires.stage_lists c.strictness_of.ensures c.pick.ensures
+    pass_inputs c.args.task.now.given c.args.pass c.args.tables.now c.requires.stage_lists c.from.ensures c.pick.ensures
     c.requires.nucleus c.requires.unused
 
 pub returns-clause-says : goal.returns-clause-says
@@ -26,4 +26,4 @@ returns-clause-says c =
     subst⁻¹ (λ (r : Result Found Missed). Says (pass_answer phrase a.pass columns) r) c.answer_in.ensures
     (says_path a.pass problem (length columns) c.best_path.result
     (c.best_path.ensures.reports_for problem
-    (pass_agrees task.given a.pass c.requires.stage_lists c.strictness_of.ensures c.pick.ensures)))
+    (pass_agrees task.given a.pass a.tables.now c.requires.stage_lists c.from.ensures c.pick.ensures)))

@@ -8,6 +8,7 @@ use Rattle.record.specs.Layout.{limits_of, limits_at}
 use Rattle.record.specs.Inner.Accepted.{Laid}
 use Rattle.record.specs.declared.layout.Layout.{Layout}
 use Rattle.record.proofs.Accepted.{laid_limits}
+use Rattle.reading.specs.declared.accepted.AcceptedRecord.{AcceptedRecord}
 use Rattle.decode.proofs.Cleared.{unused_cleared}
 use Rattle.closed.specs.Asked.{Unused}
 use Rattle.decode.proofs.Plans.{prepared_by, added_there, added_prepared}
@@ -39,7 +40,7 @@ new-decoder-requires c =
 pub put_candidates-requires-clause-unused : goal.put_candidates-requires-clause-unused
 put_candidates-requires-clause-unused c =
     let n = cells c.args.accepted.laid c.limits_of-limits.ensures c.work_cells.ensures in
-    subst (λ (bytes : List ℕ). Unused c.clear.new.best c.clear.new.back (work_cells (limits_of bytes))) (sym c.new-decoder.ensures)
+    subst (λ (bytes : List ℕ). Unused c.clear.new.best c.clear.new.back (work_cells (limits_of bytes))) (sym (ap (λ (a : AcceptedRecord). a.bytes.now) c.new-decoder.ensures.accepted))
     (unused_cleared _ _ _ (rw n at c.clear.ensures.best_after) (rw n at c.clear.ensures.back_after) c.requires.values c.requires.marks)
 
 pub returns : goal.returns
@@ -47,7 +48,7 @@ returns c =
     let n = cells c.args.accepted.laid c.limits_of-limits.ensures c.work_cells.ensures in
     let put = c.put_candidates.ensures in
     record {
-      words = rw c.new-decoder.ensures at put.out_after;
+      words = rw c.new-decoder.ensures.accepted at put.out_after;
       values = put.best_unchanged.0 ∙ rw n at c.clear.ensures.best_after;
       marks = put.best_unchanged.1 ∙ rw n at c.clear.ensures.back_after;
     }

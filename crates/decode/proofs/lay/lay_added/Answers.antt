@@ -4,8 +4,8 @@ use Rattle.std.proofs.lemmas.Bool.{false≢true}
 use Rattle.decode.proofs.Plans.{some_added, none_added, one_added}
 use Rattle.decode.proofs.lay.lay_added.Goals as goal
 
-pub lay_stage-requires-clause-has_table : goal.lay_stage-requires-clause-has_table
-lay_stage-requires-clause-has_table c = search (rules, some_added c.args.accepted.now.laid c.if-at-ne0.true)
+pub lay_stage-requires : goal.lay_stage-requires
+lay_stage-requires c = search (rules, some_added c.args.accepted.now.laid c.if-at-ne0.true)
 
 pub returns-then-at-ne0 : goal.returns-then-at-ne0
 returns-then-at-ne0 c = record {
@@ -16,5 +16,5 @@ returns-then-at-ne0 c = record {
 pub returns-else-at-ne0 : goal.returns-else-at-ne0
 returns-else-at-ne0 c = record {
   there = λ e. absurd (false≢true (sym (none_added c.args.accepted.now.laid c.if-at-ne0.false) ∙ e));
-  lacking = λ e. (refl, refl);
+  lacking = λ e. refl;
 }

@@ -3,4 +3,4 @@ use Rattle.evidence.specs.CreakyTail.{last_pitched}
 use Rattle.evidence.proofs.evidence.last_pitched.Given as goal
 
 abbrev pub invariant-loop-frame : goal.invariant-loop-frame
-invariant-loop-frame l = last_pitched l.pitched l.start l.end ≡ last_pitched l.pitched l.start l.frame
+invariant-loop-frame l = last_pitched l.pitched l.fn.span.start l.fn.span.end ≡ last_pitched l.pitched l.fn.span.start l.frame

@@ -1,37 +1,46 @@
-use Rattle.std.proofs.Common.{◌*◌, arith, ap}
+use Rattle.std.proofs.Common.{◌*◌, arith, ap, ◌∙◌}
 use Rattle.limits.specs.Sizes.{entry_words}
 use Rattle.limits.specs.Capacity.{most_units}
-use Rattle.text.proofs.Putting.{goes_on, done, renamed}
-use Rattle.printing.specs.Inner.InWords.{units_of, lines_in}
+use Rattle.text.proofs.Putting.{goes_on, done}
+use Rattle.printing.specs.Inner.InWords.{all_lines_in}
 use Rattle.printing.specs.Rendered.{entry_bytes}
-use Rattle.printing.proofs.Turns.{part_from, entries_turn, entries_end, whole_first, whole_lent, whole_later}
+use Rattle.printing.proofs.Turns.{entries_turn, entries_end, whole_first, whole_later}
 use Rattle.printing.proofs.lines.put_entries.Goals as goal
 
 pub put_entry-requires-clause-words_in_bounds : goal.put_entry-requires-clause-words_in_bounds
 put_entry-requires-clause-words_in_bounds c =
-    let fits = whole_lent c.args.most c.args.words.now c.args.count c.loop-i.i c.loop-i-test.true c.loop-i.invariant.1 in
-    omega (arith, fits.few, c.requires.most_le_most_units.0, c.loop-i.invariant.2.long)
+    let was = c.loop-entry.invariant in
+    let steps = c.in-Some.ensures.steps in
+    let fits = whole_first c.args.most c.next.new.self.n c.in-Some.entry.now c.next.new.self.iter.rest.now (steps.0.1.1 ∙ was.size) steps.1 steps.0.1.0 was.whole in
+    omega (arith, fits.few, c.requires.most_le_most_units.0, c.requires.most_le_most_units.1, was.room, was.printing.long, steps.1)
 
 pub put_entry-requires-clause-words_in_bounds_2 : goal.put_entry-requires-clause-words_in_bounds_2
-put_entry-requires-clause-words_in_bounds_2 c = let fits = whole_lent c.args.most c.args.words.now c.args.count c.loop-i.i c.loop-i-test.true c.loop-i.invariant.1 in omega (arith, fits.few, fits.there)
+put_entry-requires-clause-words_in_bounds_2 c =
+    let was = c.loop-entry.invariant in
+    let steps = c.in-Some.ensures.steps in
+    let fits = whole_first c.args.most c.next.new.self.n c.in-Some.entry.now c.next.new.self.iter.rest.now (steps.0.1.1 ∙ was.size) steps.1 steps.0.1.0 was.whole in
+    omega (arith, fits.few, fits.there)
 
-pub loop-i-preserved : goal.loop-i-preserved
-loop-i-preserved c =
+pub loop-entry-preserved : goal.loop-entry-preserved
+loop-entry-preserved c =
+    let was = c.loop-entry.invariant in
     let lines = c.put_entry.ensures in
-    let taken = c.loop-i-test.true in
-    let i = c.loop-i.i in
-    let words = c.args.words.now in
-    let most = c.args.most in
-    let part = part_from (i * entry_words most) words in
-    let first = whole_first most words c.args.count i taken c.loop-i.invariant.1 in
-    let units = ap units_of part in (
-      omega (arith, lines.puts.after, lines.puts.short, units, first.few, c.requires.most_le_most_units.0),
-      whole_later most words c.args.count i taken c.loop-i.invariant.1,
-      goes_on {m = entry_bytes most_units} c.loop-i.invariant.2 (entries_turn most words c.args.count i taken)
-          (renamed (ap lines_in part) (omega (arith, lines.puts.short, units, first.few, c.requires.most_le_most_units.0)) lines),
-    )
+    let steps = c.in-Some.ensures.steps in
+    let long = steps.0.1.1 ∙ was.size in
+    let fits = whole_first c.args.most c.next.new.self.n c.in-Some.entry.now c.next.new.self.iter.rest.now long steps.1 steps.0.1.0 was.whole in
+    record {
+      size = steps.0.0 ∙ was.size;
+      room = omega (arith, lines.puts.after, lines.puts.short, fits.few, c.requires.most_le_most_units.0, was.room, steps.1);
+      whole = whole_later c.args.most c.next.new.self.n c.in-Some.entry.now c.next.new.self.iter.rest.now long steps.1 steps.0.1.0 was.whole;
+      printing = goes_on was.printing (entries_turn c.args.most c.next.new.self.n c.in-Some.entry.now c.next.new.self.iter.rest.now long steps.1 steps.0.1.0 was.whole) lines;
+    }
 
 pub returns : goal.returns
+unfolding all_lines_in
 returns c =
-    let words = c.args.words.now in
-    done {m = entry_bytes most_units * c.args.count} c.loop-i.invariant.2 (entries_end c.args.most words c.args.count c.loop-i.i c.loop-i-test.false) (omega arith)
+    let was = c.loop-entry.invariant in
+    let steps = c.in-None.ensures.steps in
+    let end = entries_end c.args.most was.whole (λ some. omega (arith, (steps some).1.0, was.size)) in
+    let last = c.loop-entry.entry-iterator in
+    done {m = entry_bytes most_units * c.args.count} was.printing
+    (ap (λ n. all_lines_in (entry_words c.args.most) n last.iter.rest.now) end) (omega (arith, was.room))

@@ -1,18 +1,18 @@
-use Rattle.std.proofs.Common.{ℕ, List, ◌*◌, arith, ap}
-use Rattle.text.proofs.Putting.{goes_on, done, renamed}
-use Rattle.printing.specs.Listing.{unit_line}
+use Rattle.std.proofs.Common.{◌*◌, arith, length}
+use Rattle.text.proofs.Putting.{goes_on, done}
 use Rattle.printing.specs.Rendered.{unit_line_bytes}
-use Rattle.printing.proofs.Turns.{part_from, first_unit, units_turn, units_end}
+use Rattle.printing.proofs.Turns.{units_turn, units_end}
 use Rattle.printing.proofs.lines.put_units.Goals as goal
 
-pub loop-i-preserved : goal.loop-i-preserved
-loop-i-preserved c =
-    let i = c.loop-i.i in
-    let words = c.args.words.now in
+pub put_unit-requires : goal.put_unit-requires
+put_unit-requires c = omega (arith, c.loop-start.invariant.1.long)
+
+pub loop-start-preserved : goal.loop-start-preserved
+loop-start-preserved c =
     let line = c.put_unit.ensures in
-    let unit = ap (λ (ws : List ℕ). unit_line (first_unit ws)) (part_from (3 * i) words) in
-    (omega arith, goes_on c.loop-i.invariant.1 (units_turn words c.args.count i c.loop-i-test.true) (renamed unit line.puts.short line))
+    (omega (arith, line.puts.after, line.puts.short), goes_on c.loop-start.invariant.1 (units_turn c.args.units.now c.loop-start.start-index c.loop-start-test.true) line)
 
 pub returns : goal.returns
 returns c =
-    done {m = unit_line_bytes * c.args.count} c.loop-i.invariant.1 (units_end c.args.words.now c.args.count c.loop-i.i c.loop-i-test.false) (omega arith)
+    done {m = unit_line_bytes * length c.args.units.now} c.loop-start.invariant.1
+    (units_end c.args.units.now c.loop-start.start-index c.loop-start-test.false) (omega arith)

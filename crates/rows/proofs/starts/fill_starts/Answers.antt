@@ -3,7 +3,6 @@ use Rattle.paths.specs.Problem.{Problem}
 use Rattle.paths.specs.Cell.{held}
 use Rattle.paths.specs.CellRule.{rows}
 use Rattle.paths.specs.Inner.Marks.{marks}
-use Rattle.stages.specs.Lists.{starts_at, gaps_at, table_at}
 use Rattle.rows.specs.Ways.{marked_by}
 use Rattle.rows.specs.Rows.{StartsOf, GapsOf}
 use Rattle.rows.proofs.Cells.{or_markable, filled_holds}
@@ -22,16 +21,15 @@ unfolding start_way gap_way
 loop-j-preserved c =
     let a = c.args in
     let l = c.loop-j in
-    let few = c.requires.2 in
-    let kept : (q : Problem) → StartsOf q (table_at starts_at a.tables.figures.now) a.n → GapsOf q (table_at gaps_at a.tables.figures.now) a.n
+    let kept : (q : Problem) → StartsOf q a.filler.now.start a.n → GapsOf q a.filler.now.gap a.n
     → rows q (marks q) 0 l.j ≡ held (marked_by c.if-j-gt-FIRST.kept) =
     λ q starts gaps. elim c.if-j-gt-FIRST.branch [
-      | then-j-gt-FIRST w ↦ rw (w.kept-is, w.or-kept.ensures) (later-row few l.invariant c.loop-j-test.true q starts gaps w.if-j-gt-FIRST.true)
+      | then-j-gt-FIRST w ↦ rw (w.kept-is, w.or-kept.ensures) (later-row l.invariant c.loop-j-test.true q starts gaps w.if-j-gt-FIRST.true)
       | else-j-gt-FIRST w ↦
           let none = w.if-j-gt-FIRST.false in
-          rw w.kept-is (first_row few l.invariant c.loop-j-test.true q starts (omega arith))
+          rw w.kept-is (first_row l.invariant c.loop-j-test.true q starts (omega arith))
     ] in
-    turned few l.invariant c.loop-j-test.true c.requires.0 c.requires.1 c.if-j-gt-FIRST.kept c.value.result c.mark.result
+    turned l.invariant c.loop-j-test.true c.requires.0 c.requires.1 c.if-j-gt-FIRST.kept c.value.result c.mark.result
     c.value.ensures c.mark.ensures kept
 
 pub returns : goal.returns

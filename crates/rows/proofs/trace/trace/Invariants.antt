@@ -1,8 +1,8 @@
 use Rattle.rows.proofs.Tracing.{Tracing}
 use Rattle.rows.proofs.trace.trace.Given as goal
 
-abbrev pub invariant-loop-mark : goal.invariant-loop-mark
-invariant-loop-mark l = Tracing l.back l.n l.k l.boundary l.units l.s l.j l.mark
+abbrev pub invariant-loop-units : goal.invariant-loop-units
+invariant-loop-units l = Tracing l.back l.n l.k l.boundary l.units l.s l.j
 
-abbrev pub decreases-loop-mark : goal.decreases-loop-mark
-decreases-loop-mark l = l.j
+abbrev pub decreases-loop-units : goal.decreases-loop-units
+decreases-loop-units l = l.j

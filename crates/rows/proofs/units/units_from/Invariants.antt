@@ -5,6 +5,8 @@ use Rattle.rows.proofs.units.units_from.Given as goal
 
 abbrev pub invariant-loop-origin : goal.invariant-loop-origin
 invariant-loop-origin l =
-    let way = unit_way l.best l.tables.words.now l.tables.figures.now l.to l.score in
-    (l.fn.origins.start ≤ l.origin)
-    × (or_each way l.kept l.origin (l.fn.origins.end - l.origin) ≡ or_each way l.fn.so_far l.fn.origins.start (l.fn.origins.end - l.fn.origins.start))
+    let way = unit_way l.best l.tables l.to l.score in
+    let left = l.origin-iterator in
+    let origins = l.fn.origins in
+    (origins.start ≤ left.start) × (left.end ≡ origins.end)
+    × (or_each way l.kept left.start (left.end - left.start) ≡ or_each way l.fn.so_far origins.start (origins.end - origins.start))

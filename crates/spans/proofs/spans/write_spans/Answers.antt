@@ -1,34 +1,37 @@
-use Rattle.std.proofs.Common.{sym, arith}
-use Rattle.std.proofs.Math.ListN.{length-set}
-use Rattle.frames.proofs.Checks.{within}
-use Rattle.frames.proofs.Neighbours.{lowest}
-use Rattle.spans.proofs.Words.{written_none, written_all, written_room, written_more}
+use Rattle.std.proofs.Common.{◌≡◌, length, inl, ap, arith}
+use Rattle.frames.specs.Inner.Left.{frames_left}
+use Rattle.frames.specs.Frames.{ascending}
+use Rattle.frames.proofs.Ascending.{ascending_le}
+use Rattle.spans.proofs.Words.{written_none, written_all, written_low, written_more}
 use Rattle.spans.proofs.spans.write_spans.Goals as goal
 
-pub loop-f-init : goal.loop-f-init
-loop-f-init c = written_none _ _ _ _ _
+pub loop-i-init : goal.loop-i-init
+loop-i-init c =
+    let nuclei = c.args.nuclei.now in
+    let left : frames_left c.into_iter-i-iterator.result.iter ≡ ascending nuclei =
+    rw (c.into_iter-i-iterator.ensures.into_iter_gives, c.enumerate-i-items.ensures.source) c.new.ensures in
+    let none : c.into_iter-i-iterator.result.count ≡ 0 =
+    rw c.into_iter-i-iterator.ensures.into_iter_gives c.enumerate-i-items.ensures.count in
+    record {
+      can = (tt {0}, tt {0}, inl (omega (arith, none, ap (length {_}) left, ascending_le (length nuclei) 0 nuclei)));
+      finite = tt {0};
+      written = rw (left, none) (written_none _ _ _ _ _ c.requires.within);
+    }
 
 pub span_of-span-requires : goal.span_of-span-requires
-span_of-span-requires c = omega (arith, within c.requires.within (lowest _ _ (sym c.in-Some.ensures)).member)
+span_of-span-requires c =
+    let steps = c.in-Some.ensures.steps in
+    omega (arith, written_low _ _ _ _ (rw steps.0 at c.loop-i.invariant.written))
 
-pub bounds-out-at : goal.bounds-out-at
-bounds-out-at c = omega (arith, written_room _ _ _ _ c.loop-f.invariant (sym c.in-Some.ensures) _ c.span_of-span.ensures c.requires.room)
-
-pub bounds-out-at-in-Some : goal.bounds-out-at-in-Some
-bounds-out-at-in-Some c =
-    let room = written_room _ _ _ _ c.loop-f.invariant (sym c.in-Some.ensures) _ c.span_of-span.ensures c.requires.room in
-    simp length-set (omega arith)
-
-pub overflow_add-from : goal.overflow_add-from
-overflow_add-from c = omega (arith, within c.requires.within (lowest _ _ (sym c.in-Some.ensures)).member)
-
-pub loop-f-smaller : goal.loop-f-smaller
-loop-f-smaller c =
-    let room = written_room _ _ _ _ c.loop-f.invariant (sym c.in-Some.ensures) _ c.span_of-span.ensures c.requires.room in
-    omega (arith, room, c.loop-f.invariant.progress.same)
-
-pub loop-f-preserved : goal.loop-f-preserved
-loop-f-preserved c = written_more _ _ _ _ c.loop-f.invariant (sym c.in-Some.ensures) _ c.span_of-span.ensures c.requires.room
+pub loop-i-preserved : goal.loop-i-preserved
+loop-i-preserved c =
+    let steps = c.in-Some.ensures.steps in
+    let left = rw steps.0 at c.loop-i.invariant.written in
+    record {
+      can = c.in-Some.ensures.goes.keeps;
+      finite = tt {0};
+      written = rw (steps.1, steps.2) (written_more _ _ _ _ left _ c.span_of-span.ensures c.requires.room);
+    }
 
 pub returns : goal.returns
-returns c = written_all _ _ _ _ c.loop-f.invariant (sym c.in_default.ensures)
+returns c = written_all _ _ _ _ (rw c.in-None.ensures.steps.0.0 at c.loop-i.invariant.written)

@@ -1,9 +1,11 @@
-use Rattle.std.proofs.Common.{◌-◌, length}
+use Rattle.frames.specs.Inner.Left.{frames_left}
 use Rattle.spans.proofs.Words.{Written}
 use Rattle.spans.proofs.spans.write_spans.Given as goal
 
-abbrev pub invariant-loop-f : goal.invariant-loop-f
-invariant-loop-f l = Written l.nuclei l.bounds.boundaries.now l.bounds.lo_edge l.bounds.hi_edge l.initial.out l.out l.at l.from
-
-abbrev pub decreases-loop-f : goal.decreases-loop-f
-decreases-loop-f l = length l.initial.out - l.at
+abbrev pub invariant-loop-i : goal.invariant-loop-i
+invariant-loop-i l =
+    record {
+      can : (goal.iterator-loop-i).can_next l.i-iterator;
+      finite : (goal.iterator-loop-i).is_finite l.i-iterator;
+      written : Written l.nuclei l.bounds.boundaries.now l.bounds.lo_edge l.bounds.hi_edge l.initial.out l.out l.i-iterator.count (frames_left l.i-iterator.iter);
+    }

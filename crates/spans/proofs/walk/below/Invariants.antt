@@ -1,9 +1,5 @@
-use Rattle.std.proofs.Common.{length, ◌-◌}
 use Rattle.spans.specs.Inner.Walk.{Below}
 use Rattle.spans.proofs.walk.below.Given as goal
 
 abbrev pub invariant-loop-at : goal.invariant-loop-at
 invariant-loop-at l = Below l.boundaries l.frame l.at
-
-abbrev pub decreases-loop-at : goal.decreases-loop-at
-decreases-loop-at l = length l.boundaries - l.at

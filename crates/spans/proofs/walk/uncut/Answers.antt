@@ -7,8 +7,7 @@ pub loop-i-init : goal.loop-i-init
 loop-i-init c =
     record {
       passed = λ _. record { within = omega arith; each = λ i h. absurd (omega arith) };
-      starts = filling_none c.requires.room_starts;
-      ends = filling_none c.requires.room_ends;
+      filled = filling_none c.requires.room;
     }
 
 pub loop-i-preserved : goal.loop-i-preserved
@@ -17,6 +16,5 @@ loop-i-preserved c =
     let climb = climbs_next c.args.frames.now c.requires.frames_up c.loop-i.i in
     record {
       passed = λ more. below_higher _ c.below-past.ensures.front (climb more);
-      starts = filling_more inv.starts c.loop-i-test.true c.start_by.ensures;
-      ends = filling_more inv.ends c.loop-i-test.true c.end_by.ensures;
+      filled = filling_more inv.filled c.loop-i-test.true (λ x. record { start = c.start_by.ensures x; end = c.end_by.ensures x });
     }

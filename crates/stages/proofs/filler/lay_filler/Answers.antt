@@ -16,7 +16,7 @@ pub lay_costs-requires : goal.lay_costs-requires
 lay_costs-requires c =
     let a = c.args in
     let p = kept_placing a.mask.now 0 a.nuclei.now c.requires.0 c.requires.1 (λ j h. omega arith) c.place_anchors-placed.ensures in
-    ((speech_ascends p (counted a.mask.now a.bounds.now c.count_speech.ensures), places_ascend p), c.requires.0.listed.short, c.requires.2)
+    ((speech_ascends p (counted a.mask.now a.bounds.now c.count_speech.ensures), places_ascend p), c.requires.0.listed.short)
 
 pub returns : goal.returns
 returns c =

@@ -1,12 +1,15 @@
-use Rattle.std.proofs.Common.{◌+◌}
-use Rattle.stages.specs.Ranges.{entry_of}
-use Rattle.stages.proofs.Origins.{Origins, Targets}
+use Rattle.std.proofs.Common.{ℕ, ◌≡◌, ◌<◌, length}
+use Rattle.stages.proofs.Origins.{Done, Targets}
 use Rattle.stages.proofs.ranges.lay_ranges.Given as goal
 
 abbrev pub invariant-loop-i : goal.invariant-loop-i
-invariant-loop-i l =
-    Origins l.bounds (λ k. entry_of l.frames (entry_of l.places k)) (λ k. entry_of l.frames (entry_of l.places k + 1)) l.words l.i
+invariant-loop-i g l =
+    (first second : ℕ → ℕ)
+    → ((i : ℕ) (frames : ℕ × ℕ) → i < length l.bounds → goal.F-post g l.ahead i frames → (frames.0 ≡ first i) × (frames.1 ≡ second i))
+    → Done l.bounds first second l.origins l.i
 
 abbrev pub invariant-targets : goal.invariant-targets
-invariant-targets l =
-    Targets l.bounds (λ k. entry_of l.frames (entry_of l.places k)) (λ k. entry_of l.frames (entry_of l.places k + 1)) l.words l.i l.j
+invariant-targets g l =
+    (first second : ℕ → ℕ)
+    → ((i : ℕ) (frames : ℕ × ℕ) → i < length l.bounds → goal.F-post g l.ahead i frames → (frames.0 ≡ first i) × (frames.1 ≡ second i))
+    → Targets l.bounds first second l.origins l.i l.j

@@ -8,7 +8,7 @@ lay_search-requires c =
     let s = c.args.stage.now in
     let placed = c.requires.placed in
     let p = kept_placing s.mask.now s.first_row s.anchors.now s.fit s.listed s.bounded placed in
-    (reads_within p, reads_rows p placed.rowed, s.fit.listed, c.requires.words_len)
+    (reads_within p, reads_rows p placed.rowed, s.fit.listed)
 
 pub returns-clause-searched : goal.returns-clause-searched
 returns-clause-searched c =

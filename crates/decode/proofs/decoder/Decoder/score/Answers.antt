@@ -41,7 +41,7 @@ returns-in-Ok c =
 
 pub returns-in-Err : goal.returns-in-Err
 returns-in-Err c =
-    let filled : c.fill.new.self ≡ replicate (length c.args.units.now) (missed_at c.args.self.now.plan.lo_edge) = search rules in
+    let filled : c.fill.new.self ≡ replicate (length c.args.units.now) (missed_at c.args.self.now.plan.edges.start) = search rules in
     scored_missed c.args.self.now.accepted.laid c.args.self.now.inputs c.requires.candidate_in_bounds c.in-Err.missed (rw c.in-Err.is at c.requires.says)
     c.requires.unit_each c.id-id.ensures c.from-in-Err.ensures
     (c.unanchored_units-total.ensures ∙ ap (unanchored_units c.args.self.now.plan.costs) c.fill.ensures.len) c.head_of-in-Err.ensures filled

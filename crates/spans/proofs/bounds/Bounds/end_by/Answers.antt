@@ -1,4 +1,4 @@
-use Rattle.std.proofs.Common.{ℕ, ◌+◌, Option, unwrap_or, sym, ap, ◌∙◌}
+use Rattle.std.proofs.Common.{ℕ, Option, unwrap_or, sym, ap, ◌∙◌}
 use Rattle.std.proofs.Math.Nat.{le_refl}
 use Rattle.frames.specs.Frames.{lowest_from}
 use Rattle.spans.proofs.Splits.{lowest_or}
@@ -10,5 +10,5 @@ returns c =
     let beyond = c.max-beyond.result in
     c.unwrap_or.ensures ∙ ap (λ (o : Option ℕ). unwrap_or o beyond) c.copied.ensures
     ∙ c.get.ensures.lookup.4 (le_refl _) beyond
-    ∙ sym (lowest_or (c.args.frame + 1) bounds c.requires.0 c.args.past c.requires.1 beyond)
-    ∙ ap (unwrap_or (lowest_from (c.args.frame + 1) bounds)) c.max-beyond.ensures
+    ∙ sym (lowest_or c.args.next bounds c.requires.0 c.args.past c.requires.1 beyond)
+    ∙ ap (unwrap_or (lowest_from c.args.next bounds)) c.max-beyond.ensures

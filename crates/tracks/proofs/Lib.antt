@@ -1,0 +1,2 @@
+-- Laws of the sections of frames.
+mod Sections

@@ -1,8 +1,0 @@
-use Rattle.std.proofs.Common.{◌≡◌, ◌+◌, ◌-◌, ◌≤◌, leb}
-use Rattle.record.specs.Below.{any_below}
-use Rattle.record.specs.Conditions.{frame_at}
-use Rattle.tracks.proofs.unordered.Given as goal
-
-abbrev pub invariant-loop-i : goal.invariant-loop-i
-invariant-loop-i l =
-    (l.i - 1 ≤ l.fn.s.count - 1) × (l.bad ≡ any_below (λ k. leb (frame_at l.fn.bytes l.fn.s (k + 1)) (frame_at l.fn.bytes l.fn.s k)) (l.i - 1))

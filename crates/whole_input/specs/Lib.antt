@@ -1,0 +1,2 @@
+-- What readers of words answer.
+pub mod Words
