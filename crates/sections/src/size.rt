@@ -1,4 +1,5 @@
-// Refusals 1 to 4: the record's size and edition, its counts and its back pointers.
+// Refusals 1 to 4: the record's size and edition, its counts and its back pointers. A trailer and the limits of its edition are two parameters:
+// `limits_of` has the one from the other, and a struct of both would be made in one place, for these three calls.
 
 ghost use Rattle.std.specs.Prelude.{◌≡◌};
 ghost use Rattle.limits.specs.Inner.Moderate.{Moderate};
