@@ -1,9 +1,9 @@
 #!/usr/bin/env python3
 """The wrong programs that were tried against each public function of the libraries.
 
-tools/wrong.py list [CRATE...]   each public function with the edits that make a wrong program of it, and each edit
-                                 that cannot be applied; the exit status is 1 if there is such an edit, or a
-                                 function with fewer than two
+tools/wrong.py list [CRATE...]   each public function, and each that a type has for a trait, with the edits that make a
+                                 wrong program of it, and each edit that cannot be applied; the exit status is 1 if
+                                 there is such an edit, or a function with fewer than two
 tools/wrong.py try CRATE...      try the edits of crates/CRATE/tried/ with `rt must-fail`, which shows for each the first
                                  part of the proof that is missed; the exit status is 1 if one is not refused
 
@@ -24,10 +24,12 @@ from pathlib import Path
 
 TOP = Path(__file__).resolve().parent.parent
 NOT_LISTED = {"ieee_vectors", "record_tests", "evidence_tests", "listing", "listings", "replay", "tikuwero_c"}
+IMPL = re.compile(r"^impl(?:<[^>\n]*>)? ([\w<>]+) for (\w+)\S* \{\n.*?^\}$", re.M | re.S)
 HEAD = re.compile(r'^ *(pub(?:\(crate\))? )?(?:extern "C" )?(?:fn|const) (\w+)', re.M)
 USE = re.compile(r"\b(\w+)\(|\b([A-Z][A-Z0-9_]+)\b")
 BROUGHT = re.compile(r"use [\w:]+::(\w+|\{[\w, ]+\});")
-Item = namedtuple("Item", "name file public text")
+# `of`: of a function that a type has for a trait, both, as "From<Pass> for u32::"
+Item = namedtuple("Item", "of name file public text")
 Edit = namedtuple("Edit", "label replacements")
 Replacement = namedtuple("Replacement", "file old new")
 
@@ -43,8 +45,10 @@ def items_of(crate):
         text = path.read_text()
         heads = list(HEAD.finditer(text))
         ends = [head.start() for head in heads[1:]] + [len(text)]
+        impls = [(impl.span(), f"{impl[1]} for {impl[2]}::") for impl in IMPL.finditer(text)]
         for head, end in zip(heads, ends):
-            yield Item(head[2], str(path.relative_to(crate)), head[1] == "pub ", text[head.start() : end])
+            of = "".join(name for (first, last), name in impls if first < head.start() < last)
+            yield Item(of, head[2], str(path.relative_to(crate)), head[1] == "pub ", text[head.start() : end])
 
 
 def replacements_of(text):
@@ -107,10 +111,10 @@ def show_functions(name, crate, edits):
     items = list(items_of(crate))
     inner = {item.name: item for item in items if not item.public or item.name.isupper()}
     for item in items:
-        if item.public and not item.name.isupper():
+        if (item.public or item.of) and not item.name.isupper():
             labels = labels_of(item, inner, edits, {item.name})
             lacking += len(labels) < 2
-            print(f"{name}::{item.name}: {', '.join(sorted(labels)) or 'none'}")
+            print(f"{name}::{item.of}{item.name}: {', '.join(sorted(labels)) or 'none'}")
     return lacking
 
 

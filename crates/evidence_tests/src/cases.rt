@@ -11,6 +11,9 @@ use spans::bounds::Bounds;
 use spans::spans::tbu_spans;
 use std::io;
 
+// More cases than a text holds.
+const MOST_CASES: u32 = 100000;
+
 // A default for a rate: within the range, at its ends and just past them, and what is no number or not finite.
 fn default_of(k: u32) -> f64 {
     match k {
@@ -116,13 +119,18 @@ impl<'a, P: Print> Run<'a, P> {
     }
 }
 
-// Runs the case of each line. A line without a number has none.
+// Runs case after case, up to the end of the text or a kind of 0.
 pub(crate) fn run_all<P: Print>(rt: &P, text: &[u8]) -> io::Result<()> {
-    for line in text.split(|byte| *byte == b'\n') {
-        let mut numbers = Numbers::of(line);
-        if let Some(kind) = numbers.next() {
-            Run { rt, numbers }.case(kind)?;
+    let mut run = Run {
+        rt,
+        numbers: Numbers::of(text),
+    };
+    for _ in 0..MOST_CASES {
+        let kind = run.numbers.figure();
+        if kind == 0 {
+            break;
         }
+        run.case(kind)?;
     }
     Ok(())
 }

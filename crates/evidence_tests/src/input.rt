@@ -24,7 +24,11 @@ impl<'a> Numbers<'a> {
     }
 
     pub(crate) fn next(&mut self) -> Option<u32> {
-        let start = self.left.iter().position(|byte| byte.is_ascii_digit())?;
+        // a text without a digit is not gone through again
+        let Some(start) = self.left.iter().position(|byte| byte.is_ascii_digit()) else {
+            self.left = &[];
+            return None;
+        };
         let text = &self.left[start..];
         let end = text
             .iter()

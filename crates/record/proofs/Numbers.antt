@@ -1,5 +1,5 @@
 -- Numbers that are read from the bytes at a place, and a part of the bytes that holds several, one behind another.
-use Rattle.std.proofs.Common.{ℕ, zero, suc, ◌+◌, ◌-◌, ◌*◌, ◌≤◌, ◌<◌, List, ◌≡◌, sym, ap, ◌∙◌, get_or, take, drop, lit<, add-zero, add_assoc, add_comm, mul-suc, arith}
+use Rattle.std.proofs.Common.{ℕ, zero, suc, ◌+◌, ◌-◌, ◌*◌, ◌≤◌, ◌<◌, List, [], ◌∷◌, ◌≡◌, sym, ap, ◌∙◌, get_or, take, drop, lit<, add-zero, add_assoc, add_comm, mul-suc, arith}
 use Rattle.std.specs.Int.{w32, w64, from_le_bytes}
 use Rattle.std.specs.Simd.{first_chunks}
 use Rattle.std.proofs.lemmas.List.{drop-take, drop-drop, get_or-drop}
@@ -25,6 +25,11 @@ module _ (bytes : List ℕ) (at : ℕ) where
   -- what is read from them
   pub u32_read : {number : List ℕ} {n : ℕ} → number ≡ take 4 (drop at bytes) → n ≡ from_le_bytes w32 number → n ≡ u32_at bytes at
   u32_read is read = read ∙ ap (from_le_bytes w32) is ∙ u32_of
+
+  -- from its bytes, one by one
+  pub u32_listed : {n : ℕ} → n ≡ from_le_bytes w32 (byte_at bytes at ∷ byte_at bytes (at + 1) ∷ byte_at bytes (at + 2) ∷ byte_at bytes (at + 3) ∷ []) → n ≡ u32_at bytes at
+  unfolding u32_at
+  u32_listed read = read ∙ omega arith
 
   pub u64_read : {number : List ℕ} {n : ℕ} → number ≡ take 8 (drop at bytes) → n ≡ from_le_bytes w64 number → n ≡ u64_at bytes at
   u64_read is read = read ∙ ap (from_le_bytes w64) is ∙ u64_of

@@ -19,7 +19,7 @@ fn array_at<const N: usize>(bytes: &[u8], at: usize) -> [u8; N]
 }
 
 // This and `u64_at` share `array_at`. A trait for the two widths, with its law, would be longer than both.
-#[tactic(auto, using(crate::proofs::Numbers::u32_read))]
+#[tactic(auto, using(crate::proofs::Numbers::u32_read, crate::proofs::Numbers::u32_listed))]
 pub fn u32_at(bytes: &[u8], at: usize) -> u32
     requires { at + 4 ≤ length bytes.now }
     ensures { result ≡ u32_at bytes.now at }
@@ -27,7 +27,7 @@ pub fn u32_at(bytes: &[u8], at: usize) -> u32
     u32::from_le_bytes(array_at(bytes, at))
 }
 
-#[tactic(auto, using(crate::proofs::Numbers::u64_read))]
+#[tactic(auto, using(crate::proofs::Numbers::u64_read), unfolding(crate::specs::Bytes::u64_at))]
 pub fn u64_at(bytes: &[u8], at: usize) -> u64
     requires { at + 8 ≤ length bytes.now }
     ensures { result ≡ u64_at bytes.now at }

@@ -1,4 +1,5 @@
-// The entries that take no record. A case has its figures, and its lists or masks.
+// The entries that take no record. After the words that the call leaves, a case has its figures, and its lists; a case of masks has no such
+// words.
 
 use crate::case::Case;
 use crate::input::{float, list};
@@ -13,14 +14,14 @@ const MOST_OUT: usize = 140;
 
 fn rate_or_mark(case: Case) -> f64 {
     match case.answer {
-        Ok(_) => float(&mut Words { left: case.written }),
+        Ok(_) => float(&mut Words { left: case.body }),
         Err(_) => f64::MARK,
     }
 }
 
 // How many frames, the default, the frames.
 pub(crate) fn rate_s(case: Case) -> bool {
-    let mut arguments = case.arguments;
+    let mut arguments = case.arguments();
     let count = arguments.word();
     let default_s = float(&mut arguments);
     let mut cells = [0u32; MOST_FRAMES];
@@ -32,7 +33,7 @@ pub(crate) fn rate_s(case: Case) -> bool {
 
 // How many nuclei, how many boundaries, the words of the output, the edges, the nuclei, the boundaries.
 pub(crate) fn tbu_spans(case: Case) -> bool {
-    let mut arguments = case.arguments;
+    let mut arguments = case.arguments();
     let nucleus_count = arguments.word();
     let bound_count = arguments.word();
     let room = (arguments.word() as usize).min(MOST_OUT);
@@ -44,26 +45,32 @@ pub(crate) fn tbu_spans(case: Case) -> bool {
     let bounds = list(&mut arguments, bound_count, &mut bound_cells);
     let mut out = [u32::MARK; MOST_OUT];
     let returned = tikuwero_tbu_spans(nuclei, bounds, lo_edge, hi_edge, &mut out[..room]);
-    case.returns(returned) && !not_written(&out, case.written)
+    case.returns(returned) && !not_written(&out, case.body, case.words)
 }
 
 // How long the voice mask is, the edges; the voice mask, and up to the end the pitch mask.
 pub(crate) fn joins(case: Case) -> bool {
-    let mut arguments = case.arguments;
-    let len = arguments.word();
-    let start = arguments.word();
-    let end = arguments.word();
-    let voice = arguments.bytes(len);
-    case.returns(tikuwero_joins(voice, arguments.left, start, end))
+    if case.body.len() < 12 {
+        return false;
+    }
+    let mut body = Words { left: case.body };
+    let len = body.word();
+    let start = body.word();
+    let end = body.word();
+    let voice = body.bytes(len);
+    case.returns(tikuwero_joins(voice, body.left, start, end))
 }
 
 // How long the pitch mask is, the edges, the next nucleus; the pitch mask, and up to the end that of vowel speech.
 pub(crate) fn creaky_tail(case: Case) -> bool {
-    let mut arguments = case.arguments;
-    let len = arguments.word();
-    let start = arguments.word();
-    let end = arguments.word();
-    let next = arguments.word();
-    let pitched = arguments.bytes(len);
-    case.returns(tikuwero_creaky_tail(start, end, next, pitched, arguments.left))
+    if case.body.len() < 16 {
+        return false;
+    }
+    let mut body = Words { left: case.body };
+    let len = body.word();
+    let start = body.word();
+    let end = body.word();
+    let next = body.word();
+    let pitched = body.bytes(len);
+    case.returns(tikuwero_creaky_tail(start, end, next, pitched, body.left))
 }

@@ -1,6 +1,6 @@
 // A stored case: which entry it calls, what the call is to answer, and its arguments.
 
-ghost use Rattle.std.specs.Prelude.{◌+◌, ◌≤◌, length, IfOk, IfSome};
+ghost use Rattle.std.specs.Prelude.{◌≤◌, length, IfOk, IfSome};
 
 use std::io::Read;
 use std::{fmt, io};
@@ -56,12 +56,20 @@ pub(crate) struct Case<'a> {
     pub(crate) entry: Result<Entry, UnknownEntry>,
     // What is to be returned, or the number of the refusal, a number of the input: it is compared, and no refusal is told from another.
     pub(crate) answer: Result<u32, u32>,
-    // The words that the call leaves in lent memory.
-    pub(crate) written: &'a [u8],
-    pub(crate) arguments: Words<'a>,
+    // How many words the call leaves in lent memory, which are the first of the body.
+    pub(crate) words: u32,
+    pub(crate) body: &'a [u8],
 }
 
 impl<'a> Case<'a> {
+    // What stands behind those words: nothing where the body ends before.
+    pub(crate) fn arguments(&self) -> Words<'a> {
+        let at = self.body.len().min(4 * self.words as usize);
+        Words {
+            left: &self.body[at..],
+        }
+    }
+
     // Whether the C interface is to return this: a refusal as minus its number.
     pub(crate) fn returns(&self, status: i32) -> bool {
         let wanted = match self.answer {
@@ -72,38 +80,37 @@ impl<'a> Case<'a> {
     }
 }
 
-// Reads the next case. An input that ends within a case ends before it, and so does one with a case that is shorter than its words.
+// Reads the next case. An input that ends within a case ends before it, and so does one with a case of entry 0.
 pub(crate) fn next_case<'a, R: Read>(
     stored: &mut R,
     space: &'a mut [u8],
 ) -> io::Result<Option<Case<'a>>>
-    ensures { IfOk result (λ found. IfSome found (λ case. length case.written.now + length case.arguments.left.now ≤ length space.old)) }
+    ensures { IfOk result (λ found. IfSome found (λ case. length case.body.now ≤ length space.old)) }
 {
     let mut head = [0u8; 20];
     if read_full(stored, &mut head)? < head.len() {
         return Ok(None);
     }
     let mut head = Words { left: &head };
-    let entry = Entry::try_from(head.word());
+    let entry = head.word();
     let len = head.word() as usize;
     let refusal = head.word();
     let returned = head.word();
-    let words = head.word() as usize;
+    let words = head.word();
     let Some(body) = space.get_mut(..len) else {
         return Ok(None);
     };
-    if read_full(stored, body)? < len || len < 4 * words {
+    if read_full(stored, body)? < len || entry == 0 {
         return Ok(None);
     }
-    let (written, left) = body.split_at(4 * words);
     Ok(Some(Case {
-        entry,
+        entry: Entry::try_from(entry),
         answer: if refusal == 0 {
             Ok(returned)
         } else {
             Err(refusal)
         },
-        written,
-        arguments: Words { left },
+        words,
+        body,
     }))
 }

@@ -5,7 +5,7 @@ use crate::pieces::lay;
 use tikuwero::tikuwero_most_units;
 
 pub(crate) fn most_units(case: Case, record: &mut [u8]) -> bool {
-    let mut arguments = case.arguments;
+    let mut arguments = case.arguments();
     let len = arguments.word() as usize;
     let stage = arguments.word();
     let strict = arguments.word();

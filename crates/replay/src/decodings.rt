@@ -1,4 +1,4 @@
-// Decoding. A case has the lengths of the record, of the two work areas and of the output, and the record's pieces.
+// Decoding. After the result words come the lengths of the record, of the two work areas and of the output, and the record's pieces.
 
 use crate::case::Case;
 use crate::marks::{Cell, not_cleared, not_written};
@@ -14,7 +14,7 @@ const MOST_OUT: usize = 880;
 
 // Decodes with buffers of the case's lengths, and compares what is returned and every cell.
 pub(crate) fn decode(case: Case, record: &mut [u8]) -> bool {
-    let mut arguments = case.arguments;
+    let mut arguments = case.arguments();
     let len = arguments.word() as usize;
     let best_len = (arguments.word() as usize).min(MOST_WORK);
     let back_len = (arguments.word() as usize).min(MOST_WORK);
@@ -34,5 +34,5 @@ pub(crate) fn decode(case: Case, record: &mut [u8]) -> bool {
     case.returns(returned)
         && !not_cleared(&best, used)
         && !not_cleared(&back, used)
-        && !not_written(&out, case.written)
+        && !not_written(&out, case.body, case.words)
 }

@@ -1,6 +1,6 @@
 // What lent memory holds before a call, a mark in every cell, and what it is to hold afterwards.
 
-ghost use Rattle.std.specs.Prelude.{◌||◌, ◌≡◌, ◌/◌, Float, Bool, eqb, ltb, length};
+ghost use Rattle.std.specs.Prelude.{◌||◌, ◌≡◌, Float, Bool, eqb, ltb, length};
 ghost use Rattle.std.specs.Float.{nan, binary64};
 ghost use Rattle.std.specs.Float.Ieee.{of_bits};
 ghost use Rattle.replay.specs.Marks.{mark, float_mark, zero_or_mark, word_or_mark, unlike, same_float};
@@ -80,12 +80,12 @@ pub(crate) fn not_cleared<T: Cell>(cells: &[T], count: usize) -> bool
         .any(|(i, cell)| !cell.same(zero_or_mark(i, count)))
 }
 
-fn word_or_mark(written: &[u8], i: usize) -> u32
-    ensures { result ≡ word_or_mark written.now (length written.now / 4) i }
+fn word_or_mark(body: &[u8], i: usize, count: u32) -> u32
+    ensures { result ≡ word_or_mark body.now count i }
 {
-    if i < written.len() / 4 {
+    if i < count as usize {
         let mut words = Words {
-            left: &written[4 * i..],
+            left: &body[body.len().min(4 * i)..],
         };
         words.word()
     } else {
@@ -93,13 +93,13 @@ fn word_or_mark(written: &[u8], i: usize) -> u32
     }
 }
 
-// Whether some cell is not as it should be: the case's words in the first cells, and the mark in the others.
-pub(crate) fn not_written(cells: &[u32], written: &[u8]) -> bool
-    ensures { result ≡ (ltb (length cells.now) (length written.now / 4) || unlike eqb 0 (word_or_mark written.now (length written.now / 4)) cells.now) }
+// Whether some cell is not as it should be: the case's first words, so many, and the mark in the other cells.
+pub(crate) fn not_written(cells: &[u32], body: &[u8], count: u32) -> bool
+    ensures { result ≡ (ltb (length cells.now) count || unlike eqb 0 (word_or_mark body.now count) cells.now) }
 {
-    cells.len() < written.len() / 4
+    cells.len() < count as usize
         || cells
             .iter()
             .enumerate()
-            .any(|(i, cell)| !cell.same(word_or_mark(written, i)))
+            .any(|(i, cell)| !cell.same(word_or_mark(body, i, count)))
 }

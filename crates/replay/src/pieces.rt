@@ -2,11 +2,13 @@
 
 use whole_input::words::Words;
 
-// Lays bytes over the record from a place on, as far as there is room.
-fn lay_piece(bytes: &[u8], record: &mut [u8], place: usize) {
+// Lays so many bytes over the record from a place on, as far as there is room: those of the case, and zeros where the case ends before.
+fn lay_piece(bytes: &[u8], len: usize, record: &mut [u8], place: usize) {
     if let Some(under) = record.get_mut(place..) {
-        let room = under.len().min(bytes.len());
-        under[..room].copy_from_slice(&bytes[..room]);
+        let room = under.len().min(len);
+        let (held, beyond) = under[..room].split_at_mut(room.min(bytes.len()));
+        held.copy_from_slice(&bytes[..held.len()]);
+        beyond.fill(0);
     }
 }
 
@@ -15,6 +17,6 @@ pub(crate) fn lay(mut pieces: Words, record: &mut [u8]) {
     while !pieces.left.is_empty() {
         let place = pieces.word() as usize;
         let len = pieces.word();
-        lay_piece(pieces.bytes(len), record, place);
+        lay_piece(pieces.bytes(len), len as usize, record, place);
     }
 }

@@ -6,7 +6,7 @@
 ghost use Rattle.std.specs.Prelude.{◌≡◌, ◌+◌, ◌*◌, ◌≤◌, length};
 ghost use Rattle.record.specs.Inner.Bounds.{Within};
 ghost use Rattle.record.specs.Format.{costs_bytes};
-ghost use Rattle.record.specs.Conditions.{bad_mask, bad_list, bad_edges, speech_start, speech_end, bad_track};
+ghost use Rattle.record.specs.Conditions.{bad_mask, unordered, bad_list, bad_edges, speech_start, speech_end, bad_track};
 
 use limits::common::{ABSENT, LAST_FRAME};
 use record::bytes::{numbers_at, u32_at};
@@ -22,6 +22,19 @@ fn bad_mask(bytes: &[u8], s: Section) -> bool
         .fold(false, |bad, byte| bad | (*byte > 1))
 }
 
+// Each frame is compared with the one before it. `is_sorted_by` stops at the first that is not above it, and compiles to no vector code.
+fn unordered(bytes: &[u8], s: Section) -> bool
+    requires { s.start + 4 * s.count ≤ length bytes.now }
+    ensures { result ≡ unordered bytes.now s }
+{
+    let frames = numbers_at(bytes, s.start, s.count);
+    let mut bad = false;
+    for i in 1..frames.len() {
+        bad |= u32::from_le_bytes(frames[i]) <= u32::from_le_bytes(frames[i - 1]);
+    }
+    bad
+}
+
 // A frame above the last there is, or one that is not above the frame before it.
 fn bad_list(bytes: &[u8], s: Section) -> bool
     requires { s.start + 4 * s.count ≤ length bytes.now }
@@ -32,10 +45,7 @@ fn bad_list(bytes: &[u8], s: Section) -> bool
         false,
         |late, frame| late | (u32::from_le_bytes(*frame) > LAST_FRAME),
     );
-    let ascending = frames.is_sorted_by(|before, frame| {
-        u32::from_le_bytes(*before) < u32::from_le_bytes(*frame)
-    });
-    late | !ascending
+    late | unordered(bytes, s)
 }
 
 fn bad_edges(start: u32, end: u32) -> bool

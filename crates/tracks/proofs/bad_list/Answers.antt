@@ -2,12 +2,10 @@ use Rattle.std.proofs.Common.{Bool, ℕ, List, [], ◌||◌, false, ltb, ap, ap�
 use Rattle.std.specs.Int.{w32, from_le_bytes}
 use Rattle.std.proofs.lemmas.Iterator.{YieldsList-from_slice}
 use Rattle.std.proofs.lemmas.Iterator.Consumers.{fold_from_yields_List}
-use Rattle.std.proofs.lemmas.Fn.{always_returns_same}
 use Rattle.limits.specs.Common.{last_frame}
 use Rattle.record.specs.Conditions.{frame_at}
 use Rattle.record.proofs.Below.{any_walked}
 use Rattle.record.proofs.Numbers.{u32_read}
-use Rattle.tracks.proofs.Sections.{unordered_listed}
 use Rattle.tracks.proofs.bad_list.Goals as goal
 
 pub returns : goal.returns
@@ -17,5 +15,4 @@ returns c =
     let test = λ (number : List ℕ). ltb last_frame (from_le_bytes w32 number) in
     let late = fold_from_yields_List _ (λ (late : Bool) (number : List ℕ). late || test number) false c.fold-late.result c.fold-late.ensures.ran (YieldsList-from_slice numbers.result.now cc) (λ a x b q k. search (rules, tests))
     ∙ any_walked test (λ k. ltb last_frame (frame k)) [] numbers.result.now numbers.ensures.len (λ k h. ap (ltb last_frame) (u32_read _ _ (numbers.ensures.number k [] h) refl)) in
-    let unordered = unordered_listed (from_le_bytes w32) frame numbers.result.now _ numbers.ensures.len (λ k d h. u32_read _ _ (numbers.ensures.number k d h) refl) (c.is_sorted_by-ascending.ensures.cases (λ x y. ltb (from_le_bytes w32 x) (from_le_bytes w32 y)) (always_returns_same _ _ _ (λ a r f k. search (rules, tests)))) in
-    ap₂ ◌||◌ late unordered
+    ap₂ ◌||◌ late c.unordered.ensures

@@ -1,2 +1,0 @@
--- Laws of the sections of frames.
-mod Sections
