@@ -106,18 +106,20 @@ module _ (q : Problem) (k n : ℕ) (stop : List Float) (best : List Float) (back
           (units_of there.0, subst (λ (j : ℕ). Traces (mark_in back n) k j (units_of there.0)) is trace.1),
         )
 
+    -- what is reported as its units is what the trace gives
     pub reports_chosen :
         (units : List HeldBounds) → ((found : List Bounds) → Traces (mark_in back n) k end.boundary found → UnitsAre units found) →
-        Reports q k (Some (record { sum = end.sum; units = units }))
+        (reported : List HeldBounds) → reported ≡ units → Reports q k (Some (record { sum = end.sum; units = reported }))
     unfolding carry
-    reports_chosen units led =
+    reports_chosen units led reported is_traced =
         let there = chosen_there in
         let is : end_of there.0 ≡ end.boundary = ap (λ (x : Ended). x.at) there.2 in
         let summed : end.sum ≡ sum q there.0 = sym (ap (λ (x : Ended). x.sum) there.2) in
         record {
           found = rw there.1 (ap held summed);
           units = rw there.1
-              (led (units_of there.0)
+              (is_traced
+              ∙ led (units_of there.0)
               (subst (λ (j : ℕ). Traces (mark_in back n) k j (units_of there.0)) is (trace_chosen there.0 there.1).1));
         }
 

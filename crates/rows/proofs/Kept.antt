@@ -218,15 +218,15 @@ module _ (inputs : RowInputs) (j : ℕ) (within : j < inputs.n) (best : List Flo
   abbrev tables : RowTables
   tables = tables_by inputs
 
-  -- the way by the gap, as the code reads it
-  abbrev gap_way : Way
-  gap_way = Gap (sub binary64 last (get_or inputs.tables.now.figures.filler.gap (j - 1) nan))
+  -- the way by the gap whose cost the code reads at `from`
+  abbrev gap_way : ℕ → Way
+  gap_way from = Gap (sub binary64 last (get_or inputs.tables.now.figures.filler.gap from nan))
 
   -- the gap carried on from the cell before
   carried :
       (q : Problem) (s : ℕ) (cells : ℕ → Cell Marked) → GapsOf q tables.tables.gap inputs.n → 0 < j → (mark : ℕ) →
       next_cells q s cells (j - 1) ≡ held (record { value = last; mark = mark }) →
-      carry ((marks q).over_gap (j - 1)) (next_cells q s cells (j - 1)) ≡ held (marked_by gap_way)
+      carry ((marks q).over_gap (j - 1)) (next_cells q s cells (j - 1)) ≡ held (marked_by (gap_way (j - 1)))
   unfolding carry marks
   carried q s cells gaps h mark e = rw (e, ← gaps (j - 1) (omega arith))
 
@@ -252,15 +252,15 @@ module _ (inputs : RowInputs) (j : ℕ) (within : j < inputs.n) (best : List Flo
     alone_later h = later_than (nothing_arrives h)
 
     -- where no unit arrives there is the gap alone
-    pub cell_gap : end ≤ low → CellOf tables best inputs.n before since j last gap_way
+    pub cell_gap : end ≤ low → (from : ℕ) → from ≡ j - 1 → CellOf tables best inputs.n before since j last (gap_way from)
     unfolding keep
-    cell_gap h = record {
+    cell_gap h from is = record {
       markable = omega arith;
       kept = λ q s gaps of back cells row reach mark filled.
           let after = alone_later h in
           next_step q s cells j (omega arith)
           ∙ rw (arrivals_none before of best back row reach j within (nothing_arrives h))
-          (carried q s cells gaps (omega arith) mark (filled after));
+          (rw is (carried q s cells gaps (omega arith) mark (filled after)));
     }
 
     units_are :
@@ -283,11 +283,13 @@ module _ (inputs : RowInputs) (j : ℕ) (within : j < inputs.n) (best : List Flo
     }
 
     -- a later one has them, then the gap
-    pub cell_both : low < end → since < j → CellOf tables best inputs.n before since j last (or_later unit_ways gap_way)
-    cell_both some after = record {
-      markable = or_markable unit_ways gap_way (kept_markable some) (omega arith);
+    pub cell_both :
+        low < end → since < j → (from : ℕ) → from ≡ j - 1 →
+        CellOf tables best inputs.n before since j last (or_later unit_ways (gap_way from))
+    cell_both some after from is = record {
+      markable = or_markable unit_ways (gap_way from) (kept_markable some) (omega arith);
       kept = λ q s gaps of back cells row reach mark filled.
           next_step q s cells j (omega arith)
-          ∙ rw (units_are some of back cells row reach, carried q s cells gaps (omega arith) mark (filled after))
-          (sym (or_keeps unit_ways gap_way));
+          ∙ rw (units_are some of back cells row reach, carried q s cells gaps (omega arith) mark (filled after), is)
+          (sym (or_keeps unit_ways (gap_way (j - 1))));
     }

@@ -57,8 +57,10 @@ module _ {back : List ℕ} {n k boundary : ℕ} {held : List HeldBounds} {s j : 
     pub unit-back : UnitBefore (mark_in back n) s i j was.rest
     unit-back = trace_unit i was.traced e
 
-    pub united-back : Tracing back n k boundary (set held (s - 1) (record { first = i; last = j })) (s - 1) i
-    united-back = record {
+    -- what is stored as the unit's first boundary is the one that the mark names
+    pub united-back :
+        (reported : ℕ) → reported ≡ i → Tracing back n k boundary (set held (s - 1) (record { first = reported; last = j })) (s - 1) i
+    united-back reported is = record {
       units = was.units;
       whole = was.whole;
       rest = unit-back.before;
@@ -68,7 +70,7 @@ module _ {back : List ℕ} {n k boundary : ℕ} {held : List HeldBounds} {s j : 
           was.split ∙ ap (λ (l : List Bounds). l ++ was.stored) unit-back.all
           ∙ append_assoc unit-back.before (record { first = i; last = j } ∷ []) was.stored;
       filled =
-          ap (λ (l : List HeldBounds). set l (s - 1) here) (was.filled ∙ again)
+          ap₂ (λ (r : ℕ) (l : List HeldBounds). set l (s - 1) (record { first = r; last = j })) is (was.filled ∙ again)
           ∙ store (s - 1) no_bounds here (map held_bounds was.stored ++ replicate (most_units - k) no_bounds);
       row = omega (arith, was.row);
       place = omega (arith, was.place, unit-back.lower);

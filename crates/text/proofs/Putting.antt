@@ -1,13 +1,14 @@
 -- Texts written one after the other, and byte by byte.
-use Prim.Native.Nat.{ℕ, ◌+◌, ◌≤◌}
+use Prim.Native.Nat.{ℕ, ◌+◌, ◌-◌, ◌≤◌, ◌<◌}
 use mathlib.Core.List.{List, [], ◌++◌}
 use mathlib.Core.Path.{◌≡◌, refl, ap, ap₂, sym, subst, ◌∙◌}
 use native.Mathlib.Omega.{arith}
-use mathlib.Core.List.{append_assoc}
-use borrow.Rule.Slice.PartMut.{put_mid}
-use lib.ListN.{length, take, drop, length-append}
-use lib.Seq.{sets, sets-eq, drop-drop}
+use lib.ListN.{length, take, drop, get_or, length-append, length-take, length-drop}
+use lib.Seq.{sets, sets-eq, ext_get_or, get_or-take, get_or-drop}
+use Rattle.laws.proofs.Numbers.{by_order}
 use Rattle.laws.proofs.Stores.{sets_append}
+use Rattle.std.proofs.lemmas.List.{get_or_append_left, get_or-append_right}
+use Rattle.std.specs.Borrow.{MutBor}
 use Rattle.text.specs.declared.Page.{Page}
 use Rattle.text.specs.Inner.Puts.{Prints}
 
@@ -38,6 +39,18 @@ renamed {n = n} {page = page} same few prints = record {
   };
   long = prints.long;
   same_slice = prints.same_slice;
+}
+
+-- the same page by another name: its slice and its length are what counts
+pub started : {m : ℕ} {page page' last : Page} {xs : List ℕ} → Prints m page' xs last → page'.bytes ≡ page.bytes → page'.len ≡ page.len → Prints m page xs last
+started {page} {page'} {xs = xs} prints slice place = record {
+  puts = record {
+    written = prints.puts.written ∙ ap₂ (λ (b : MutBor (List ℕ)) (i : ℕ). sets b.now i xs) slice place;
+    after = omega arith;
+    short = prints.puts.short;
+  };
+  long = prints.long ∙ ap (λ (b : MutBor (List ℕ)). length b.now) slice;
+  same_slice = prints.same_slice ∙ ap (λ (b : MutBor (List ℕ)). b.ghost_name) slice;
 }
 
 -- ---- a text that is written part by part
@@ -77,10 +90,27 @@ module _ {first : Page} {text : List ℕ} where
 
 -- ---- a text that is copied into a part of the slice
 
-pub copied : (out text : List ℕ) {new : List ℕ} (at : ℕ) {k : ℕ} → new ≡ text → k ≡ length text → at + length text ≤ length out
-    → put_mid at k out new ≡ sets out at text
-copied out text at same long room =
-    ap₂ (λ (n : List ℕ) (j : ℕ). put_mid at j out n) same long
-    ∙ ap (λ (rest : List ℕ). take at out ++ (text ++ rest)) (drop-drop (length text) at out)
-    ∙ sym (append_assoc (take at out) text (drop (at + length text) out))
-    ∙ sym (sets-eq text out at room)
+-- the lengths and the bytes of what is put together from parts
+pub ruleset in_parts = (length-append, length-take, length-drop, get_or_append_left, get_or-append_right, get_or-take, get_or-drop)
+
+-- The slice is as long as before and has the text's bytes at the page's place, and every other byte is as it was. Each is a fact on single
+-- bytes, so it doesn't matter by which numbers a body reaches them.
+pub copied : {page page' : Page} {text : List ℕ} → length page'.bytes.now ≡ length page.bytes.now
+    → ((j : ℕ) → j < length text → get_or page'.bytes.now (page.len + j) 0 ≡ get_or text j 0)
+    → ((j : ℕ) → j < page.len → get_or page'.bytes.now j 0 ≡ get_or page.bytes.now j 0)
+    → ((j : ℕ) → page.len + length text ≤ j → get_or page'.bytes.now j 0 ≡ get_or page.bytes.now j 0) → page'.len ≡ page.len + length text
+    → page'.bytes.ghost_name ≡ page.bytes.ghost_name → page.len + length text ≤ length page.bytes.now → Prints (length text) page text page'
+copied {page} {page'} {text} long within before behind next slice room =
+    let out = page.bytes.now in
+    let at = page.len in
+    let parts = take at out ++ text ++ drop (at + length text) out in
+    let same : page'.bytes.now ≡ parts =
+    ext_get_or 0 page'.bytes.now parts (grind (arith, in_parts)) (λ j below.
+    by_order j at
+    (λ front. grind (arith, in_parts, before j))
+    (λ from. by_order j (at + length text) (λ inside. grind (arith, in_parts, within (j - at))) (λ past. grind (arith, in_parts, behind j)))) in
+    record {
+      puts = record { written = same ∙ sym (sets-eq text out at room); after = next; short = omega arith };
+      long = long;
+      same_slice = slice;
+    }

@@ -1,4 +1,7 @@
 -- proofs/Chosen.antt has what the rows hold.
+use Rattle.std.proofs.Common.{arith}
+use Rattle.std.proofs.lemmas.List.{ext_get_or}
+use Rattle.rows.specs.Traced.{no_bounds}
 use Rattle.closed.proofs.Chosen.{traced, reports_chosen}
 use Rattle.closed.proofs.path.finish.Goals as goal
 
@@ -17,4 +20,4 @@ returns-clause-reports c =
     let end = c.best_end-end in
     let units = c.trace-units in
     λ q stops all reach. reports_chosen q a.k a.n a.stop.now a.best.now a.back.now stops all a.since reach
-    end.result (end.ensures q stops) units.result units.ensures
+    end.result (end.ensures q stops) units.result units.ensures _ (ext_get_or no_bounds _ _ (omega arith) (grind arith))

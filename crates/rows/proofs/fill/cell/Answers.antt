@@ -9,7 +9,7 @@ returns-then-end-low c =
     let i = a.inputs.now in
     let p = c.requires.in_bounds in
     cell_gap i a.j p.2 a.best.now p.0 a.before a.since a.last p.1 c.requires.begins c.max-low.result c.at-end.result c.max-low.ensures
-    (c.at-end.ensures ∙ end_is i a.j p.2) c.if-end-low.true
+    (c.at-end.ensures ∙ end_is i a.j p.2) c.if-end-low.true _ (omega arith)
 
 pub arrived-kept-requires : goal.arrived-kept-requires
 arrived-kept-requires c =
@@ -29,7 +29,7 @@ returns-then-since-j c =
     let p = c.requires.in_bounds in
     rw (c.or.ensures, c.arrived-kept.ensures)
     (cell_both i a.j p.2 a.best.now p.0 a.before a.since a.last p.1 c.requires.begins c.max-low.result c.at-end.result
-    c.max-low.ensures (c.at-end.ensures ∙ end_is i a.j p.2) c.if-end-low.false c.if-since-j.true)
+    c.max-low.ensures (c.at-end.ensures ∙ end_is i a.j p.2) c.if-end-low.false c.if-since-j.true _ (omega arith))
 
 pub returns-else-since-j : goal.returns-else-since-j
 returns-else-since-j c =

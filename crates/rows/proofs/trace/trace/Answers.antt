@@ -32,4 +32,4 @@ pub overflow_sub-s : goal.overflow_sub-s
 overflow_sub-s c = omega (arith, (unit-back c.loop-units.invariant c.in-Unit.ensures).is_row)
 
 pub loop-units-preserved : goal.loop-units-preserved
-loop-units-preserved c = united-back c.loop-units.invariant c.in-Unit.ensures
+loop-units-preserved c = united-back c.loop-units.invariant c.in-Unit.ensures _ (omega arith)
